@@ -1,0 +1,4 @@
+pub mod Kind
+pub mod Numbers
+pub mod Flags
+pub mod Refusals

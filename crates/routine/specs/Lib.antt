@@ -1,0 +1,6 @@
+pub mod Limits
+pub mod Commands
+pub mod Runs
+pub mod Decoding
+pub mod Standing
+pub mod Checking

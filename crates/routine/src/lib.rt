@@ -1,0 +1,3 @@
+// Routines in tables: their rows, and the check that accepts or refuses them.
+pub mod checks;
+pub mod rows;
