@@ -9,7 +9,7 @@ use Rattle.std.specs.declared.result.Result.the-variants.{Ok}
 use Rattle.kinds.specs.declared.numbered.Variable.{Variable}
 use Rattle.routine.specs.declared.rows.TermRow.{TermRow}
 use Rattle.routine.specs.declared.rows.CommandRow.{CommandRow}
-use Rattle.routine.specs.Limits.{deepest}
+use Rattle.routine.specs.Limits.{most-waiting, deepest}
 use Rattle.routine.specs.Commands.{Item, literal, reference, operation, Term, Single, assert, assume, assign, skip, raise, Joint, sequence, choice, catch, Command, single, join, size, depth}
 use Rattle.routine.specs.Decoding.{variable, term-of, has-term, within-limits, decode}
 
@@ -28,47 +28,50 @@ joint-tag sequence = 6
 joint-tag choice = 7
 joint-tag catch = 8
 
+-- a term can be worked out where w values wait: at most 16 wait at once and one remains; each reference is known, and each operation is
+-- below ops
+abbrev pub Workable : {R : Type 0} → (R → Type 0) → ℕ → ℕ → Term R → Type 0
+Workable Known ops w [] = w ≡ 1
+Workable Known ops w (literal n ∷ t) = (w < most-waiting) × Workable Known ops (w + 1) t
+Workable Known ops w (reference r ∷ t) = (w < most-waiting) × Known r × Workable Known ops (w + 1) t
+Workable Known ops w (operation k ∷ t) = (2 ≤ w) × (k < ops) × Workable Known ops (w - 1) t
+
 module _ (v ops : ℕ) where
-  -- every variable is below v and every operation below ops
-  abbrev pub Known-item : Item Variable → Type 0
-  Known-item (literal n) = Unit {0}
-  Known-item (reference x) = x .0 < v
-  Known-item (operation k) = k < ops
+  -- the term reads no variable but those below v
+  abbrev pub Proper-term : Term Variable → Type 0
+  Proper-term t = Workable (λ x. x .0 < v) ops 0 t
 
-  abbrev pub Known-term : Term Variable → Type 0
-  Known-term [] = Unit {0}
-  Known-term (x ∷ t) = Known-item x × Known-term t
+  abbrev pub Proper-single : Single → Type 0
+  Proper-single (assert t) = Proper-term t
+  Proper-single (assume t) = Proper-term t
+  Proper-single (assign x t) = (x .0 < v) × Proper-term t
+  Proper-single skip = Unit {0}
+  Proper-single raise = Unit {0}
 
-  abbrev pub Known-single : Single → Type 0
-  Known-single (assert t) = Known-term t
-  Known-single (assume t) = Known-term t
-  Known-single (assign x t) = (x .0 < v) × Known-term t
-  Known-single skip = Unit {0}
-  Known-single raise = Unit {0}
+  -- the command is one over v variables and ops operations
+  abbrev pub Proper : Command → Type 0
+  Proper (single c) = Proper-single c
+  Proper (join j a b) = Proper a × Proper b
 
-  abbrev pub Known : Command → Type 0
-  Known (single c) = Known-single c
-  Known (join j a b) = Known a × Known b
+  -- the row has this term
+  abbrev pub Has-term : List TermRow → CommandRow → Term Variable → Type 0
+  Has-term terms r t = (has-term v ops terms r ≡ true) × (t ≡ term-of terms r)
+
+  -- the fields that the row's tag uses are those of the command
+  abbrev pub Fields : List TermRow → CommandRow → Single → Type 0
+  Fields terms r (assert t) = Has-term terms r t
+  Fields terms r (assume t) = Has-term terms r t
+  Fields terms r (assign x t) = (r .target < v) × (x ≡ variable (r .target)) × Has-term terms r t
+  Fields terms r skip = Unit {0}
+  Fields terms r raise = Unit {0}
 
   module _ (commands : List CommandRow) (terms : List TermRow) where
-    -- the row has this term
-    abbrev pub Has-term : CommandRow → Term Variable → Type 0
-    Has-term r t = (has-term v ops terms r ≡ true) × (t ≡ term-of terms r)
-
-    -- the fields that the row's tag uses are those of the command
-    abbrev pub Fields : CommandRow → Single → Type 0
-    Fields r (assert t) = Has-term r t
-    Fields r (assume t) = Has-term r t
-    Fields r (assign x t) = (r .target < v) × (x ≡ variable (r .target)) × Has-term r t
-    Fields r skip = Unit {0}
-    Fields r raise = Unit {0}
-
     abbrev pub row : ℕ → CommandRow
     row i = getD commands i no-row
 
     -- the command ends at row i: a joined row's right part ends at the row before it, its left part at row `left`
     abbrev pub Ends-at : ℕ → Command → Type 0
-    Ends-at i (single c) = (i < length commands) × (row i .tag ≡ single-tag c) × Fields (row i) c
+    Ends-at i (single c) = (i < length commands) × (row i .tag ≡ single-tag c) × Fields terms (row i) c
     Ends-at i (join j a b) =
         (i < length commands) × (row i .tag ≡ joint-tag j) × (row i .left + size b + 1 ≡ i) × Ends-at (row i .left) a × Ends-at (i - 1) b
 
@@ -78,9 +81,9 @@ module _ (v ops : ℕ) where
       pub all-rows : size c ≡ length commands
       pub shallow : depth c ≤ deepest
 
-    -- an accepted routine is a tree that stands in its rows, all of it known
+    -- an accepted routine is a tree that stands in its rows, over its variables and operations
     abbrev pub Decoding-sound : Type 0
-    Decoding-sound = (c : Command) → decode v ops commands terms ≡ Ok c → Stands c × Known c
+    Decoding-sound = (c : Command) → decode v ops commands terms ≡ Ok c → Stands c × Proper c
 
     -- rows within the limits in which a tree stands are accepted as that tree
     abbrev pub Decoding-complete : Type 0

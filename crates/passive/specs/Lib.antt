@@ -1,0 +1,4 @@
+pub mod Passive
+pub mod Outcomes
+pub mod Agreement
+pub mod Layout

@@ -1,0 +1,2 @@
+// The passive form of a routine: its measures, and the form itself in tables.
+pub mod rows;
