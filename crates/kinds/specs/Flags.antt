@@ -52,4 +52,5 @@ flag-kind = record {
   zero-no = refl;
   same-equal = λ x y e. ap flag (equal-means (x .0) (y .0) e);
   equal-same = λ x. equal-itself (x .0);
-  no-such-op = past-the-last }
+  no-such-op = past-the-last;
+}

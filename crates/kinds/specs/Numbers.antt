@@ -69,4 +69,5 @@ number-kind = record {
   zero-no = refl;
   same-equal = λ x y e. ap number (equal-means (x .0) (y .0) e);
   equal-same = λ x. equal-itself (x .0);
-  no-such-op = past-the-last }
+  no-such-op = past-the-last;
+}

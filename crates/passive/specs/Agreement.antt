@@ -23,9 +23,9 @@ module _ {V : Type 0} (K : KindOf V) where
   -- what the assignment makes true is so in some run from the state that it begins with
   pub record Seen-in-runs (v : ℕ) (c : Command) (a : Assignment V) : Type 0 where
     pub normal-runs :
-      outcomes K a (passive-form v c .code) .N ≡ true → (s : State V) × Run K c (take v a) (normal s) × Reads a (passive-form v c .normal) s
+        outcomes K a (passive-form v c .code) .N ≡ true → (s : State V) × Run K c (take v a) (normal s) × Reads a (passive-form v c .normal) s
     pub raised-runs :
-      outcomes K a (passive-form v c .code) .X ≡ true → (s : State V) × Run K c (take v a) (raised s) × Reads a (passive-form v c .raised) s
+        outcomes K a (passive-form v c .code) .X ≡ true → (s : State V) × Run K c (take v a) (raised s) × Reads a (passive-form v c .raised) s
     pub wrong-runs : outcomes K a (passive-form v c .code) .W ≡ true → Run K c (take v a) wrong
 
   -- an assignment of w values that begins with the start
@@ -36,13 +36,13 @@ module _ {V : Type 0} (K : KindOf V) where
   -- what is so in some run, some assignment of w values that begins with its start makes true
   pub record Runs-seen (w v : ℕ) (c : Command) (start : State V) : Type 0 where
     pub normal-seen :
-      (s : State V) → Run K c start (normal s)
-      → (a : Assignment V) × Begins w v start a × (outcomes K a (passive-form v c .code) .N ≡ true) × Reads a (passive-form v c .normal) s
+        (s : State V) → Run K c start (normal s)
+        → (a : Assignment V) × Begins w v start a × (outcomes K a (passive-form v c .code) .N ≡ true) × Reads a (passive-form v c .normal) s
     pub raised-seen :
-      (s : State V) → Run K c start (raised s)
-      → (a : Assignment V) × Begins w v start a × (outcomes K a (passive-form v c .code) .X ≡ true) × Reads a (passive-form v c .raised) s
+        (s : State V) → Run K c start (raised s)
+        → (a : Assignment V) × Begins w v start a × (outcomes K a (passive-form v c .code) .X ≡ true) × Reads a (passive-form v c .raised) s
     pub wrong-seen :
-      Run K c start wrong → (a : Assignment V) × Begins w v start a × (outcomes K a (passive-form v c .code) .W ≡ true)
+        Run K c start wrong → (a : Assignment V) × Begins w v start a × (outcomes K a (passive-form v c .code) .W ≡ true)
 
   -- W is false under every assignment of w values that begins with the start exactly when no run from there ends wrong
   abbrev pub Never-wrong : ℕ → ℕ → Command → State V → Type 0

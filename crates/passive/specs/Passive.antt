@@ -56,15 +56,17 @@ differing f x y r = record {
   names = f ∷ r .names;
   left = record { new = f; old = x } ∷ r .left;
   right = record { new = f; old = y } ∷ r .right;
-  next = r .next }
+  next = r .next;
+}
 
 -- a variable that both sides name alike keeps its name; each other, in ascending order, gets a new one
 abbrev pub merge-names : List Name → List Name → ℕ → Merged
 merge-names [] ys k = record { names = []; left = []; right = []; next = k }
 merge-names (x ∷ xs) [] k = record { names = []; left = []; right = []; next = k }
 merge-names (x ∷ xs) (y ∷ ys) k = elim (eqb (x .0) (y .0)) [
-    true ↦ agreeing x (merge-names xs ys k)
-  | false ↦ differing (name k) x y (merge-names xs ys (k + 1)) ]
+  | true ↦ agreeing x (merge-names xs ys k)
+  | false ↦ differing (name k) x y (merge-names xs ys (k + 1))
+]
 
 pub record Merge : Type 0 where
   pub names : Names
@@ -144,7 +146,8 @@ joined j a b =
       code = p-join j (guard (tail (a .code) (n .left)) (x .left)) (guard (tail (b .code) (n .right)) (x .right));
       normal = n .names;
       raised = x .names;
-      next = x .next }
+      next = x .next;
+    }
 
 -- the passive form of a command that starts from a map, where k is the next new name
 abbrev pub passify : Command → Names → ℕ → Passified

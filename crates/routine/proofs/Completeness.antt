@@ -32,8 +32,8 @@ module _ (v ops : ℕ) (commands : List CommandRow) (terms : List TermRow) where
   onward i o = elim o [ Err e ↦ Err e | Ok s ↦ from (i + 1) s ]
 
   turn :
-    (i : ℕ) (finished s : List Command) (rd : Result Reading Refusal) → i < length commands → reading v ops terms (at i) ≡ rd
-    → placed i (at i .left) finished rd ≡ Ok s → from i finished ≡ from (i + 1) s
+      (i : ℕ) (finished s : List Command) (rd : Result Reading Refusal) → i < length commands → reading v ops terms (at i) ≡ rd
+      → placed i (at i .left) finished rd ≡ Ok s → from i finished ≡ from (i + 1) s
   turn i finished s rd lt e p =
       at-drop-more (rows-from v ops terms i finished) commands i no-row lt
       ∙ ap (λ k. onward i (placed i (at i .left) finished k)) e
@@ -50,7 +50,7 @@ module _ (v ops : ℕ) (commands : List CommandRow) (terms : List TermRow) where
       ∙ over b (at i .left + 1) (i - 1) (a ∷ finished) (omega (arith, h .2)) (h .4) (omega arith)
       ∙ ap (λ k. from k (b ∷ (a ∷ finished))) back
       ∙ turn i (b ∷ (a ∷ finished)) (join j a b ∷ finished) (Ok (joins j)) (h .0) (reads-joint v ops terms (at i) j (h .1))
-          (ap (λ t. cond t (Ok (join j a b ∷ finished)) (Err Parts)) tests)
+      (ap (λ t. cond t (Ok (join j a b ∷ finished)) (Err Parts)) tests)
     where
       back : i - 1 + 1 ≡ i
       back = omega (arith, h .2)

@@ -56,8 +56,8 @@ Agrees parts i (Err e) (Ok s) = ⊥
 Agrees parts i (Err e) (Err f) = e ≡ f
 
 both-ways :
-  (parts : List Part) (i : ℕ) (a b : Bool) (p : Part) (s : List Command) → a ≡ b → (a ≡ true → Agrees parts i (Ok p) (Ok s))
-  → Agrees parts i (cond a (Ok p) (Err Parts)) (cond b (Ok s) (Err Parts))
+    (parts : List Part) (i : ℕ) (a b : Bool) (p : Part) (s : List Command) → a ≡ b → (a ≡ true → Agrees parts i (Ok p) (Ok s))
+    → Agrees parts i (cond a (Ok p) (Err Parts)) (cond b (Ok s) (Err Parts))
 both-ways parts i true true p s e h = h refl
 both-ways parts i false false p s e h = refl
 both-ways parts i true false p s e h = false-is-not-true (sym e)
@@ -68,8 +68,8 @@ refused parts i true p e = false-is-not-true (sym e)
 refused parts i false p e = refl
 
 tests-same :
-  (l s i k sb da db dl di : ℕ) → s ≡ k → k + sb ≡ i → 0 < sb → di ≡ db → (l + 1 ≡ k → dl ≡ da)
-  → (ltb 0 i && (eqb (l + 1) s && ltb (max dl di) deepest)) ≡ (eqb (l + 1 + sb) i && leb (max da db + 1) deepest)
+    (l s i k sb da db dl di : ℕ) → s ≡ k → k + sb ≡ i → 0 < sb → di ≡ db → (l + 1 ≡ k → dl ≡ da)
+    → (ltb 0 i && (eqb (l + 1) s && ltb (max dl di) deepest)) ≡ (eqb (l + 1 + sb) i && leb (max da db + 1) deepest)
 tests-same l s i k sb da db dl di es ei p ed el = grind (arith, tells)
 
 test-says : (l s i d : ℕ) → (ltb 0 i && (eqb (l + 1) s && ltb d deepest)) ≡ true → l + 1 ≡ s
@@ -94,18 +94,18 @@ module _ (parts : List Part) (i left : ℕ) where
   agrees-joint j (b ∷ (a ∷ earlier)) h =
       both-ways parts i tested (eqb (left + 1 + size b) i && leb (max (depth a) (depth b) + 1) deepest) made (join j a b ∷ earlier)
       (tests-same left (b-part .first) i (h .0) (size b) (depth a) (depth b) _ _ (h .2) (h .1) (size-pos b) (h .3)
-        (λ e. ap (λ x. getD parts x no-part .depth) (before e) ∙ h .4 .3))
+      (λ e. ap (λ x. getD parts x no-part .depth) (before e) ∙ h .4 .3))
       (λ t. let e = before (test-says left (b-part .first) i (max (a-part .depth) (b-part .depth)) t ∙ h .2) in
-          let f : a-part .first ≡ h .4 .0 = ap (λ x. getD parts x no-part .first) e ∙ h .4 .2 in
-          let g : a-part .depth ≡ depth a = ap (λ x. getD parts x no-part .depth) e ∙ h .4 .3 in
-          (omega (arith, h .1, h .4 .1), ap₂ (λ x y. max x y + 1) g (h .3), subst (λ k. Laid parts k earlier) (sym f) (h .4 .4)))
-      where
-        before : left + 1 ≡ h .0 → left ≡ h .0 - 1
-        before e = omega arith
+      let f : a-part .first ≡ h .4 .0 = ap (λ x. getD parts x no-part .first) e ∙ h .4 .2 in
+      let g : a-part .depth ≡ depth a = ap (λ x. getD parts x no-part .depth) e ∙ h .4 .3 in
+      (omega (arith, h .1, h .4 .1), ap₂ (λ x y. max x y + 1) g (h .3), subst (λ k. Laid parts k earlier) (sym f) (h .4 .4)))
+    where
+      before : left + 1 ≡ h .0 → left ≡ h .0 - 1
+      before e = omega arith
 
   agrees :
-    (finished : List Command) → Laid parts i finished → (rd : Result Reading Refusal)
-    → Agrees parts i (part-at parts i left (shape rd)) (placed i left finished rd)
+      (finished : List Command) → Laid parts i finished → (rd : Result Reading Refusal)
+      → Agrees parts i (part-at parts i left (shape rd)) (placed i left finished rd)
   agrees finished h (Err e) = refl
   agrees finished h (Ok (alone c)) = (refl, refl, h)
   agrees finished h (Ok (joins j)) = agrees-joint j finished h
@@ -161,7 +161,8 @@ module _ (v ops : ℕ) (terms : List TermRow) (commands : List CommandRow) where
                 finished = c ∷ earlier;
                 laid = (p .first, a .0, ap (λ x. x .first) at, ap (λ x. x .depth) at ∙ a .1, laid-set parts i p (p .first) earlier (omega (arith, a .0)) (a .2));
                 rest = sym (turn ∙ ap (onward i) is);
-                room = length-set parts i p ∙ so .room }
+                room = length-set parts i p ∙ so .room;
+              }
 
       pub sofar-stop : (f : Refusal) → part ≡ Err f → all-rows ≡ Err f
       sofar-stop f e = go step refl (subst (λ x. Agrees parts i x step) e agreed)

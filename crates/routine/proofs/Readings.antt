@@ -26,7 +26,7 @@ module _ (v ops : ℕ) (terms : List TermRow) (r : CommandRow) where
   Says (Err e) = Unit {0}
 
   says-term :
-    (c : Term Variable → Single) → (has-term v ops terms r ≡ true → Says (Ok (alone (c (term-of terms r))))) → Says (with-term v ops terms r c)
+      (c : Term Variable → Single) → (has-term v ops terms r ≡ true → Says (Ok (alone (c (term-of terms r))))) → Says (with-term v ops terms r c)
   says-term c h = by-test Says (has-term v ops terms r) _ _ h (λ _. tt)
 
   pub reading-says : Says (reading v ops terms r)
@@ -34,8 +34,8 @@ module _ (v ops : ℕ) (terms : List TermRow) (r : CommandRow) where
       by-test Says (eqb (r .tag) 1) _ _ (λ e. says-term assert (λ h. (same-number _ _ e, (h, refl)))) λ _.
       by-test Says (eqb (r .tag) 2) _ _ (λ e. says-term assume (λ h. (same-number _ _ e, (h, refl)))) λ _.
       by-test Says (eqb (r .tag) 3) _ _
-        (λ e. by-test Says (ltb (r .target) v) _ _
-          (λ t. says-term (assign (variable (r .target))) (λ h. (same-number _ _ e, (grind (arith, tells), refl, (h, refl))))) (λ _. tt)) λ _.
+      (λ e. by-test Says (ltb (r .target) v) _ _
+      (λ t. says-term (assign (variable (r .target))) (λ h. (same-number _ _ e, (grind (arith, tells), refl, (h, refl))))) (λ _. tt)) λ _.
       by-test Says (eqb (r .tag) 4) _ _ (λ e. (same-number _ _ e, tt)) λ _.
       by-test Says (eqb (r .tag) 5) _ _ (λ e. (same-number _ _ e, tt)) λ _.
       by-test Says (eqb (r .tag) 6) _ _ (same-number _ _) λ _.

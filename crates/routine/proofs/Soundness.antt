@@ -47,8 +47,8 @@ module _ (v ops : ℕ) (commands : List CommandRow) (terms : List TermRow) where
   Finishes i (Err e) = Unit {0}
 
   finishes-joint :
-    (i : ℕ) (j : Joint) (finished : List Command) → i < length commands → Finished i finished → Says v ops terms (row v ops commands terms i) (Ok (joins j))
-    → Finishes (i + 1) (joined j i (row v ops commands terms i .left) finished)
+      (i : ℕ) (j : Joint) (finished : List Command) → i < length commands → Finished i finished → Says v ops terms (row v ops commands terms i) (Ok (joins j))
+      → Finishes (i + 1) (joined j i (row v ops commands terms i .left) finished)
   finishes-joint i j [] lt h s = tt
   finishes-joint i j (b ∷ []) lt h s = tt
   finishes-joint i j (b ∷ (a ∷ earlier)) lt h s =
@@ -60,14 +60,18 @@ module _ (v ops : ℕ) (commands : List CommandRow) (terms : List TermRow) where
           let e : l + 1 + size b ≡ i = grind (arith, tells) in
           let d : max (depth a) (depth b) + 1 ≤ deepest = grind (arith, tells) in
           let back : i ≡ i + 1 - 1 = omega arith in
-          let ends-left : h .0 - 1 ≡ l = omega (arith, h .1) in
-          (h .5 .0, omega (arith, h .1, h .5 .1),
+          let ends-left : h .0 - 1 ≡ l = omega (arith, h .1) in (
+            h .5 .0,
+            omega (arith, h .1, h .5 .1),
             subst (λ k. Ends-at v ops commands terms k (join j a b)) back (lt, s, omega arith, subst (λ k. Ends-at v ops commands terms k a) ends-left (h .5 .2), h .2),
-            (h .5 .3, h .3), d, h .5 .5)
+            (h .5 .3, h .3),
+            d,
+            h .5 .5,
+          )
 
   finishes :
-    (i : ℕ) (finished : List Command) → i < length commands → Finished i finished → (rd : Result Reading Refusal)
-    → Says v ops terms (row v ops commands terms i) rd → Finishes (i + 1) (placed i (row v ops commands terms i .left) finished rd)
+      (i : ℕ) (finished : List Command) → i < length commands → Finished i finished → (rd : Result Reading Refusal)
+      → Says v ops terms (row v ops commands terms i) rd → Finishes (i + 1) (placed i (row v ops commands terms i .left) finished rd)
   finishes i finished lt h (Err e) s = tt
   finishes i finished lt h (Ok (alone c)) s =
       let back : i ≡ i + 1 - 1 = omega arith in
@@ -85,7 +89,7 @@ module _ (v ops : ℕ) (commands : List CommandRow) (terms : List TermRow) where
   sound-whole i (c ∷ (d ∷ earlier)) e h = tt
 
   sound-from :
-    (n i : ℕ) (finished : List Command) → i + n ≡ length commands → Finished i finished → Sound (rows-from v ops terms i finished (drop i commands))
+      (n i : ℕ) (finished : List Command) → i + n ≡ length commands → Finished i finished → Sound (rows-from v ops terms i finished (drop i commands))
   sound-from zero i finished e h =
       subst Sound (sym (at-drop-all (rows-from v ops terms i finished) commands i (omega arith))) (sound-whole i finished (omega arith) h)
   sound-from (suc n) i finished e h =
@@ -93,12 +97,12 @@ module _ (v ops : ℕ) (commands : List CommandRow) (terms : List TermRow) where
       let r = row v ops commands terms i in
       subst Sound (sym (at-drop-more (rows-from v ops terms i finished) commands i no-row lt))
       (go (placed i (r .left) finished (reading v ops terms r)) (finishes i finished lt h (reading v ops terms r) (reading-says v ops terms r))
-        (λ s. sound-from n (i + 1) s (omega arith)))
+      (λ s. sound-from n (i + 1) s (omega arith)))
     where
       go :
-        (o : Result (List Command) Refusal) → Finishes (i + 1) o
-        → ((s : List Command) → Finished (i + 1) s → Sound (rows-from v ops terms (i + 1) s (drop (i + 1) commands)))
-        → Sound (elim o [ Err e ↦ Err e | Ok s ↦ rows-from v ops terms (i + 1) s (drop (i + 1) commands) ])
+          (o : Result (List Command) Refusal) → Finishes (i + 1) o
+          → ((s : List Command) → Finished (i + 1) s → Sound (rows-from v ops terms (i + 1) s (drop (i + 1) commands)))
+          → Sound (elim o [ Err e ↦ Err e | Ok s ↦ rows-from v ops terms (i + 1) s (drop (i + 1) commands) ])
       go (Err f) m rec = tt
       go (Ok s) m rec = rec s m
 

@@ -33,8 +33,8 @@ module _ (v ops : ℕ) where
 
   -- a turn of the loop: what is left of the rows decides
   pub term-turn :
-    (w : ℕ) (rows : List TermRow) (i : ℕ) (d : TermRow) (o : Option ℕ) → i < length rows → stepped v ops w (getD rows i d) ≡ o
-    → well-formed v ops w (drop i rows) ≡ rest (drop (i + 1) rows) o
+      (w : ℕ) (rows : List TermRow) (i : ℕ) (d : TermRow) (o : Option ℕ) → i < length rows → stepped v ops w (getD rows i d) ≡ o
+      → well-formed v ops w (drop i rows) ≡ rest (drop (i + 1) rows) o
   term-turn w rows i d o below e =
       at-drop-more (well-formed v ops w) rows i d below
       ∙ one-more w (getD rows i d) (drop (i + 1) rows)
@@ -45,14 +45,14 @@ module _ (v ops : ℕ) where
 
   -- a row that may stand is an item that may
   item-works :
-    (w : ℕ) (r : TermRow) (rs : List TermRow) → may-stand v ops w r ≡ true
-    → Works (waiting-then w r) (map item rs) → Works w (map item (r ∷ rs))
+      (w : ℕ) (r : TermRow) (rs : List TermRow) → may-stand v ops w r ≡ true
+      → Works (waiting-then w r) (map item rs) → Works w (map item (r ∷ rs))
   item-works w r rs h more =
       by-test (λ x. Works w (x ∷ map item rs)) (eqb (r .tag) 1) _ _
-        (λ e. (grind (arith, tells), subst (λ n. Works n (map item rs)) (pushes (grind (arith, tells))) more)) λ e.
+      (λ e. (grind (arith, tells), subst (λ n. Works n (map item rs)) (pushes (grind (arith, tells))) more)) λ e.
       by-test (λ x. Works w (x ∷ map item rs)) (eqb (r .tag) 2) _ _
-        (λ f. (grind (arith, tells), grind (arith, tells), subst (λ n. Works n (map item rs)) (pushes (grind (arith, tells))) more))
-        (λ f. (grind (arith, tells), grind (arith, tells), subst (λ n. Works n (map item rs)) (pops (grind (arith, tells))) more))
+      (λ f. (grind (arith, tells), grind (arith, tells), subst (λ n. Works n (map item rs)) (pushes (grind (arith, tells))) more))
+      (λ f. (grind (arith, tells), grind (arith, tells), subst (λ n. Works n (map item rs)) (pops (grind (arith, tells))) more))
     where
       pushes : eqb (r .tag) 3 ≡ false → waiting-then w r ≡ w + 1
       pushes e = ap (λ b. cond b (w - 1) (w + 1)) e

@@ -13,9 +13,13 @@ use kinds::kind::Kind;
 use kinds::refusals::Refusal;
 
 const MOST_VARIABLES: u32 = 32;
+
 const MOST_COMMANDS: usize = 1023;
+
 const MOST_TERMS: usize = 4096;
+
 const MOST_WAITING: u32 = 16;
+
 const DEEPEST: u32 = 64;
 
 // How many values wait after one more row of a term, or `None` where the row may not stand there.
@@ -27,11 +31,19 @@ fn waiting_after_row(v: u32, ops: u32, waiting: u32, row: TermRow) -> Option<u32
         1 => true,
         2 => number < v,
         3 => {
-            return if number < ops && waiting >= 2 { Some(waiting - 1) } else { None };
+            return if number < ops && waiting >= 2 {
+                Some(waiting - 1)
+            } else {
+                None
+            };
         }
         _ => false,
     };
-    if pushes && waiting < MOST_WAITING { Some(waiting + 1) } else { None }
+    if pushes && waiting < MOST_WAITING {
+        Some(waiting + 1)
+    } else {
+        None
+    }
 }
 
 fn rows_make_a_term(v: u32, ops: u32, rows: &[TermRow]) -> bool
@@ -103,14 +115,24 @@ fn join_at(parts: &[Part], i: u32, left: u32) -> Result<Part, Refusal>
     let a = parts[left as usize];
     let deeper = a.depth.max(b.depth);
     if deeper < DEEPEST {
-        Ok(Part { first: a.first, depth: deeper + 1 })
+        Ok(Part {
+            first: a.first,
+            depth: deeper + 1,
+        })
     } else {
         Err(Refusal::Parts)
     }
 }
 
 // The command that ends at row `i`.
-fn place(v: u32, ops: u32, terms: &[TermRow], parts: &[Part], i: u32, row: CommandRow) -> Result<Part, Refusal>
+fn place(
+    v: u32,
+    ops: u32,
+    terms: &[TermRow],
+    parts: &[Part],
+    i: u32,
+    row: CommandRow,
+) -> Result<Part, Refusal>
     requires { ⌜ Ready (now parts) i ⌝ }
     ensures { λ r. ⌜ r ≡ part-at (now (parts .entry)) i (row .left) (shape (reading v ops (now (terms .entry)) row)) ⌝ }
 {
@@ -124,14 +146,22 @@ fn place(v: u32, ops: u32, terms: &[TermRow], parts: &[Part], i: u32, row: Comma
 fn check_rows(v: u32, ops: u32, commands: &[CommandRow], terms: &[TermRow]) -> Result<(), Refusal>
     ensures { λ r. ⌜ r ≡ verdict (decode v ops (now (commands .entry)) (now (terms .entry))) ⌝ }
 {
-    if v > MOST_VARIABLES || commands.is_empty() || commands.len() > MOST_COMMANDS || terms.len() > MOST_TERMS {
+    if v > MOST_VARIABLES
+        || commands.is_empty()
+        || commands.len() > MOST_COMMANDS
+        || terms.len() > MOST_TERMS
+    {
         return Err(Refusal::Limits);
     }
     let mut parts = [Part { first: 0, depth: 0 }; MOST_COMMANDS];
     for (i, row) in commands.iter().enumerate() {
         parts[i] = place(v, ops, terms, &parts, i as u32, *row)?;
     }
-    if parts[commands.len() - 1].first == 0 { Ok(()) } else { Err(Refusal::Whole) }
+    if parts[commands.len() - 1].first == 0 {
+        Ok(())
+    } else {
+        Err(Refusal::Whole)
+    }
 }
 
 // Whether the rows are a routine of `v` variables over the kind: accepted, or refused by the first rule that they break.

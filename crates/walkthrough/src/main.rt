@@ -1,4 +1,7 @@
 // The walkthrough: one routine taken through every layer, with what each layer says of it.
+ghost use mathlib.Core.Path.{_≡_};
+ghost use Rattle.routine.specs.Decoding.{decode, verdict};
+
 mod samples;
 mod text;
 
@@ -24,7 +27,9 @@ fn report(rt: &LibcRuntime, what: &str, answer: Result<(), Refusal>) -> Result<(
     Ok(())
 }
 
-fn check_numbers(v: u32, commands: &[CommandRow], terms: &[TermRow]) -> Result<(), Refusal> {
+fn check_numbers(v: u32, commands: &[CommandRow], terms: &[TermRow]) -> Result<(), Refusal>
+    ensures { λ r. ⌜ r ≡ verdict (decode v 5 (now (commands .entry)) (now (terms .entry))) ⌝ }
+{
     check::<Number>(v, commands, terms)
 }
 
@@ -37,20 +42,39 @@ fn show_damaged(rt: &LibcRuntime) -> Result<(), AnyError> {
     report(rt, "row 3 with tag 9", check_numbers(2, &damaged, &terms))?;
     damaged = commands;
     damaged[1].target = 2;
-    report(rt, "row 1 assigning to v2", check_numbers(2, &damaged, &terms))?;
+    report(
+        rt,
+        "row 1 assigning to v2",
+        check_numbers(2, &damaged, &terms),
+    )?;
     damaged = commands;
     damaged[13].count = 4;
-    report(rt, "row 13 with its term cut short", check_numbers(2, &damaged, &terms))?;
+    report(
+        rt,
+        "row 13 with its term cut short",
+        check_numbers(2, &damaged, &terms),
+    )?;
     damaged = commands;
     damaged[14].left = 11;
-    report(rt, "row 14 with its left part at row 11", check_numbers(2, &damaged, &terms))?;
-    report(rt, "the last row left out", check_numbers(2, &commands[0..14], &terms))
+    report(
+        rt,
+        "row 14 with its left part at row 11",
+        check_numbers(2, &damaged, &terms),
+    )?;
+    report(
+        rt,
+        "the last row left out",
+        check_numbers(2, &commands[0..14], &terms),
+    )
 }
 
 fn run(rt: &LibcRuntime) -> Result<(), AnyError> {
     let Sample { commands, terms } = make_sample();
     let rows = commands.len();
-    println!(rt, "The routine: {rows} command rows over v0, a number, and v1, a counter.")?;
+    println!(
+        rt,
+        "The routine: {rows} command rows over v0, a number, and v1, a counter."
+    )?;
     println!(rt, "")?;
     text::print_routine(rt, &commands, &terms)?;
     println!(rt, "")?;
@@ -60,7 +84,10 @@ fn run(rt: &LibcRuntime) -> Result<(), AnyError> {
     println!(rt, "Damaged copies:")?;
     show_damaged(rt)?;
     println!(rt, "")?;
-    println!(rt, "Done: one routine checked and shown, six damaged copies refused.")?;
+    println!(
+        rt,
+        "Done: one routine checked and shown, six damaged copies refused."
+    )?;
     Ok(())
 }
 

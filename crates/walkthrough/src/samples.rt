@@ -7,13 +7,19 @@ use routine::rows::CommandRow;
 use routine::rows::TermRow;
 
 const MINUS: u16 = 1;
+
 const LESS: u16 = 3;
+
 const EQUAL: u16 = 4;
 
 const ASSERT: u32 = 1;
+
 const ASSUME: u32 = 2;
+
 const ASSIGN: u32 = 3;
+
 const SEQUENCE: u32 = 6;
+
 const CHOICE: u32 = 7;
 
 // A term row.

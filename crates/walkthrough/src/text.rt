@@ -1,11 +1,15 @@
 // How a routine is shown.
+ghost use mathlib.Core.Path.{_≡_};
+ghost use Rattle.walkthrough.specs.Shown.{sign};
 use routine::rows::CommandRow;
 use routine::rows::TermRow;
 use std::alloc::AllocError;
 use std::alloc::Global;
 use std::error::AnyError;
 
-fn operator(operation: u16) -> &'static str {
+fn operator(operation: u16) -> &'static str
+    ensures { λ r. ⌜ now r ≡ sign operation ⌝ }
+{
     match operation {
         0 => "+",
         1 => "-",
@@ -56,10 +60,19 @@ fn print_line(rt: &LibcRuntime, depth: usize, line: &str) -> Result<(), AnyError
 fn term_of(heap: Global, terms: &[TermRow], row: CommandRow) -> Result<String, AllocError> {
     let first = row.from as usize;
     let end = first + row.count as usize;
-    if end <= terms.len() { term_text(heap, &terms[first..end]) } else { format!(heap, "") }
+    if end <= terms.len() {
+        term_text(heap, &terms[first..end])
+    } else {
+        format!(heap, "")
+    }
 }
 
-fn print_single(rt: &LibcRuntime, terms: &[TermRow], row: CommandRow, depth: usize) -> Result<(), AnyError> {
+fn print_single(
+    rt: &LibcRuntime,
+    terms: &[TermRow],
+    row: CommandRow,
+    depth: usize,
+) -> Result<(), AnyError> {
     let heap = rt.alloc();
     let term = term_of(heap, terms, row)?;
     let target = row.target;
@@ -74,7 +87,13 @@ fn print_single(rt: &LibcRuntime, terms: &[TermRow], row: CommandRow, depth: usi
 }
 
 // Prints the command that ends at row `at`.
-fn print_command(rt: &LibcRuntime, commands: &[CommandRow], terms: &[TermRow], at: usize, depth: usize) -> Result<(), AnyError> {
+fn print_command(
+    rt: &LibcRuntime,
+    commands: &[CommandRow],
+    terms: &[TermRow],
+    at: usize,
+    depth: usize,
+) -> Result<(), AnyError> {
     if at >= commands.len() {
         return Ok(());
     }
@@ -94,7 +113,11 @@ fn print_command(rt: &LibcRuntime, commands: &[CommandRow], terms: &[TermRow], a
     print_command(rt, commands, terms, at - 1, inner)
 }
 
-pub fn print_routine(rt: &LibcRuntime, commands: &[CommandRow], terms: &[TermRow]) -> Result<(), AnyError> {
+pub fn print_routine(
+    rt: &LibcRuntime,
+    commands: &[CommandRow],
+    terms: &[TermRow],
+) -> Result<(), AnyError> {
     match commands.len() {
         0 => Ok(()),
         n => print_command(rt, commands, terms, n - 1, 1),

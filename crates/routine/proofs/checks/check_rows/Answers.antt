@@ -18,11 +18,11 @@ pub returns-in-Break-parts : need.returns-in-Break-parts
 returns-in-Break-parts c =
     let p = err-from-errBy (c .from-residual .result) (c .from-residual .ensures .1) in
     let within =
-      decode-within _ _ _ _ (c .if-v-gt-MOST-VARIABLES .left) (omega (arith, false-eqb _ 0 (c .if-is-empty .ensures tt)))
-      (c .if-commands-gt-MOST-COMMANDS .left) (c .if-terms-gt-MOST-TERMS .left) in
+    decode-within _ _ _ _ (c .if-v-gt-MOST-VARIABLES .left) (omega (arith, false-eqb _ 0 (c .if-is-empty .ensures tt)))
+    (c .if-commands-gt-MOST-COMMANDS .left) (c .if-terms-gt-MOST-TERMS .left) in
     let stop =
-      sofar-stop _ _ _ _ (c .loop-i .inv) _ (c .loop-i-test .taken) (c .if-commands-gt-MOST-COMMANDS .left) _
-      (sym (c .place .ensures) ∙ c .in-Break-parts .was tt) in
+    sofar-stop _ _ _ _ (c .loop-i .inv) _ (c .loop-i-test .taken) (c .if-commands-gt-MOST-COMMANDS .left) _
+    (sym (c .place .ensures) ∙ c .in-Break-parts .was tt) in
     rw (p .1, p .2) (sym (ap verdict (within ∙ stop)))
 
 pub returns-then-parts-commands-eq0 : need.returns-then-parts-commands-eq0

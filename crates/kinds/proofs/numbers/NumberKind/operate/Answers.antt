@@ -9,21 +9,21 @@ use Rattle.kinds.proofs.numbers.NumberKind.operate.Needs as need
 
 pub returns-in-0 : need.returns-in-0
 returns-in-0 c =
-  let f : SFits w32 (c .args .p .0) = search needs in
-  let h : SFits w32 (c .args .q .0) = search needs in
-  let k : c .args .op ≡ 0 = search needs in
-  ap number (wrapping-add-is w32 _ _ f h) ∙ ap (λ k. operated k (c .args .p) (c .args .q)) (sym k)
+    let f : SFits w32 (c .args .p .0) = search needs in
+    let h : SFits w32 (c .args .q .0) = search needs in
+    let k : c .args .op ≡ 0 = search needs in
+    ap number (wrapping-add-is w32 _ _ f h) ∙ ap (λ k. operated k (c .args .p) (c .args .q)) (sym k)
 
 pub returns-in-1 : need.returns-in-1
 returns-in-1 c =
-  let f : SFits w32 (c .args .p .0) = search needs in
-  let h : SFits w32 (c .args .q .0) = search needs in
-  let k : c .args .op ≡ 1 = search needs in
-  ap number (wrapping-sub-is w32 _ _ f h) ∙ ap (λ k. operated k (c .args .p) (c .args .q)) (sym k)
+    let f : SFits w32 (c .args .p .0) = search needs in
+    let h : SFits w32 (c .args .q .0) = search needs in
+    let k : c .args .op ≡ 1 = search needs in
+    ap number (wrapping-sub-is w32 _ _ f h) ∙ ap (λ k. operated k (c .args .p) (c .args .q)) (sym k)
 
 pub returns-in-2 : need.returns-in-2
 returns-in-2 c =
-  let f : SFits w32 (c .args .p .0) = search needs in
-  let h : SFits w32 (c .args .q .0) = search needs in
-  let k : c .args .op ≡ 2 = search needs in
-  ap number (wrapping-mul-is w32 _ _ f h) ∙ ap (λ k. operated k (c .args .p) (c .args .q)) (sym k)
+    let f : SFits w32 (c .args .p .0) = search needs in
+    let h : SFits w32 (c .args .q .0) = search needs in
+    let k : c .args .op ≡ 2 = search needs in
+    ap number (wrapping-mul-is w32 _ _ f h) ∙ ap (λ k. operated k (c .args .p) (c .args .q)) (sym k)
