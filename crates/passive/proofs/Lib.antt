@@ -1,0 +1,9 @@
+pub mod Endings
+pub mod Values
+pub mod Merging
+pub mod Forms
+pub mod Sound
+pub mod Settling
+pub mod Complete
+pub mod Agreeing
+pub mod Bounding

@@ -1,4 +1,5 @@
 pub mod Passive
 pub mod Outcomes
+pub mod Uses
 pub mod Agreement
 pub mod Layout

@@ -120,28 +120,28 @@ passify-single (assign x t) m k =
 passify-single skip m k = record { code = p-single p-skip; normal = Some m; raised = None; next = k }
 passify-single raise m k = record { code = p-single p-raise; normal = None; raised = Some m; next = k }
 
--- the map that the right part of a joined command starts from, where the command starts from m and its left part is a
-abbrev pub entry : Joint → List Name → Passified → Names
-entry sequence m a = a .normal
-entry choice m a = Some m
-entry catch m a = a .raised
+-- the map that the right part of a joined command starts from, where the command starts from m and its left part ends with n and x
+abbrev pub entry : Joint → List Name → Names → Names → Names
+entry sequence m n x = n
+entry choice m n x = Some m
+entry catch m n x = x
 
 -- the left part's exits from the whole: in a sequence its normal exit goes on into the right part, in a catch its raised one
-abbrev pub leaves-normal : Joint → Passified → Names
-leaves-normal sequence a = None
-leaves-normal choice a = a .normal
-leaves-normal catch a = a .normal
+abbrev pub leaves-normal : Joint → Names → Names
+leaves-normal sequence n = None
+leaves-normal choice n = n
+leaves-normal catch n = n
 
-abbrev pub leaves-raised : Joint → Passified → Names
-leaves-raised sequence a = a .raised
-leaves-raised choice a = a .raised
-leaves-raised catch a = None
+abbrev pub leaves-raised : Joint → Names → Names
+leaves-raised sequence x = x
+leaves-raised choice x = x
+leaves-raised catch x = None
 
 -- the exits of both parts are merged, first the normal ones; each part renames at its own
 abbrev pub joined : Joint → Passified → Passified → Passified
 joined j a b =
-    let n = merge (leaves-normal j a) (b .normal) (b .next) in
-    let x = merge (leaves-raised j a) (b .raised) (n .next) in
+    let n = merge (leaves-normal j (a .normal)) (b .normal) (b .next) in
+    let x = merge (leaves-raised j (a .raised)) (b .raised) (n .next) in
     record {
       code = p-join j (guard (tail (a .code) (n .left)) (x .left)) (guard (tail (b .code) (n .right)) (x .right));
       normal = n .names;
@@ -153,7 +153,9 @@ joined j a b =
 abbrev pub passify : Command → Names → ℕ → Passified
 passify c None k = stopped k
 passify (single c) (Some m) k = passify-single c m k
-passify (join j c d) (Some m) k = let a = passify c (Some m) k in joined j a (passify d (entry j m a) (a .next))
+passify (join j c d) (Some m) k =
+    let a = passify c (Some m) k in
+    joined j a (passify d (entry j m (a .normal) (a .raised)) (a .next))
 
 -- k and the n - 1 names after it
 abbrev pub names-from : ℕ → ℕ → List Name

@@ -8,26 +8,27 @@ use Rattle.kinds.specs.Kind.{KindOf}
 use Rattle.kinds.specs.declared.numbered.Variable.{Variable}
 use Rattle.routine.specs.Commands.{Item, literal, reference, operation, Term, Single, assert, assume, assign, skip, raise, Joint, sequence, choice, catch, Command, single, join}
 
-module _ {V R : Type 0} (K : KindOf V) (look : R → V) where
+module _ {V : Type 0} (K : KindOf V) where
   -- an operation takes the last two waiting values, the earlier as first operand; the last stands first in the list
   abbrev pub operate-on : ℕ → List V → List V
   operate-on k [] = []
   operate-on k (q ∷ []) = []
   operate-on k (q ∷ (p ∷ waiting)) = K .operate k p q ∷ waiting
 
-  abbrev pub waiting-after : Term R → List V → List V
-  waiting-after [] waiting = waiting
-  waiting-after (literal n ∷ t) waiting = waiting-after t (K .literal n ∷ waiting)
-  waiting-after (reference r ∷ t) waiting = waiting-after t (look r ∷ waiting)
-  waiting-after (operation k ∷ t) waiting = waiting-after t (operate-on k waiting)
-
   abbrev pub last-waiting : List V → V
   last-waiting [] = K .no
   last-waiting (x ∷ xs) = x
 
-  -- the value of a term, where each reference has the value that look gives it
-  abbrev pub value : Term R → V
-  value t = last-waiting (waiting-after t [])
+  module _ {R : Type 0} (look : R → V) where
+    abbrev pub waiting-after : Term R → List V → List V
+    waiting-after [] waiting = waiting
+    waiting-after (literal n ∷ t) waiting = waiting-after t (K .literal n ∷ waiting)
+    waiting-after (reference r ∷ t) waiting = waiting-after t (look r ∷ waiting)
+    waiting-after (operation k ∷ t) waiting = waiting-after t (operate-on k waiting)
+
+    -- the value of a term, where each reference has the value that look gives it
+    abbrev pub value : Term R → V
+    value t = last-waiting (waiting-after t [])
 
 -- a state holds a value for each variable
 abbrev pub State : Type 0 → Type 0

@@ -1,0 +1,3 @@
+// Measuring a routine's passive form, and writing it.
+mod maps;
+mod measuring;
