@@ -1,7 +1,7 @@
 -- How the code's name maps stand for maps.
 use mathlib.Core.Path.{_≡_}
 use mathlib.Core.List.{List, [], _∷_}
-use Prim.Native.Nat.{ℕ, zero, suc}
+use Prim.Native.Nat.{ℕ, zero, suc, _≤_}
 use lib.ListN.{length}
 use Rattle.std.specs.declared.option.Option.{Option}
 use Rattle.std.specs.declared.option.Option.the-variants.{Some, None}
@@ -31,3 +31,4 @@ pub record Merges (v : ℕ) (r : Merging) (m : Merge) : Type 0 where
   pub names : names-of v (r .names) ≡ m .names
   pub next : r .next ≡ m .next
   pub renamed : r .renamed ≡ length (m .left)
+  pub few : r .renamed ≤ v

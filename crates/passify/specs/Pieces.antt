@@ -14,6 +14,7 @@ pub record Piece : Type 0 where
   pub rows : List PassiveRow
   pub terms : List PassiveTermRow
 
+infixl 20 _then_
 abbrev pub _then_ : Piece → Piece → Piece
 _then_ a b = record { rows = a .rows ++ b .rows; terms = a .terms ++ b .terms }
 

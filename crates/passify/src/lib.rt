@@ -1,3 +1,4 @@
 // Measuring a routine's passive form, and writing it.
 mod maps;
 mod measuring;
+mod writing;

@@ -33,8 +33,9 @@ impl NameMap {
         requires { ⌜ v ≤ 32 ⌝ }
         ensures { λ r. ⌜ r ≡ getD (map-of v (now (self .entry))) x (name 0) ⌝ }
     {
-        if u32::from(x) < v {
-            self.names[x as usize]
+        let i = x as usize;
+        if i < v as usize {
+            self.names[i]
         } else {
             Name(0)
         }

@@ -92,7 +92,7 @@ pub struct Leaving {
     pub raised: Option<NameMap>,
 }
 
-pub fn leaving(tag: u32, left: Measured) -> Leaving
+pub fn left_exits(tag: u32, left: Measured) -> Leaving
     ensures normal { λ r. ⌜ At-joint tag (λ j. (v : ℕ) → names-of v (r .normal) ≡ leaves-normal j (names-of v (left .normal))) ⌝ }
     ensures raised { λ r. ⌜ At-joint tag (λ j. (v : ℕ) → names-of v (r .raised) ≡ leaves-raised j (names-of v (left .raised))) ⌝ }
 {
@@ -128,7 +128,7 @@ pub fn measure_joined(tag: u32, v: u32, left: Measured, right: Measured) -> Meas
     requires fits { ⌜ Some-joint tag (λ j. Fits (joined-sizes j (sizes-of v left) (sizes-of v right))) ⌝ }
     ensures { λ r. ⌜ At-joint tag (λ j. sizes-of v r ≡ joined-sizes j (sizes-of v left) (sizes-of v right)) ⌝ }
 {
-    let out = leaving(tag, left);
+    let out = left_exits(tag, left);
     let n = merge(v, out.normal, right.normal, right.next);
     let x = merge(v, out.raised, right.raised, n.next);
     let rows = 2 * (2 * n.renamed + guard_row_count(x.renamed)) + 1;
