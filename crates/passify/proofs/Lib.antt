@@ -5,3 +5,8 @@ pub mod MergeTurns
 pub mod Singles
 pub mod Joins
 pub mod RowParts
+pub mod Parts
+pub mod Wrotes
+pub mod LetTurns
+pub mod Behind
+pub mod SinglePieces

@@ -1,5 +1,5 @@
 -- The laws of put, which writes a list into another from a place on.
-use mathlib.Core.Path.{_≡_, sym, ap, _∙_}
+use mathlib.Core.Path.{_≡_, refl, sym, ap, _∙_}
 use mathlib.Core.List.{List, [], _∷_, _++_, map, append-assoc}
 use Prim.Native.Nat.{ℕ, _+_, _≤_, _<_}
 use native.Mathlib.Nat.{add-zero, add-assoc}
@@ -7,7 +7,7 @@ use native.Mathlib.Numerals.{add-one}
 use native.Mathlib.Omega.{arith}
 use lib.ListN.{length, getD, set, take, drop, length-append, take-append-drop, length-drop, length-map}
 use lib.Seq.{length-take-le}
-use Rattle.std.proofs.shelf.Lists.{take-at, drop-at, set-split, drop-drop, take-more, getD-drop, map-push}
+use Rattle.std.proofs.shelf.Lists.{take-at, drop-at, set-split, drop-drop, take-more, map-push}
 use Rattle.passive.specs.Layout.{put}
 
 module _ {X : Type 0} where
@@ -61,18 +61,18 @@ module _ {X : Type 0} where
       ∙ set-put (put xs i ys) (i + length ys) y (omega (arith, length-put xs i ys (omega arith)))
       ∙ put-put xs i ys (y ∷ []) (omega arith)
 
--- a loop that writes f of one element after another, from place `from` of ts to place `at` of E
-module _ {A B : Type 0} (f : A → B) (E : List B) (at from i : ℕ) (ts : List A) (d : A) (h : from + i < length ts) (g : at + i < length E) where
-  pub put-step : set (put E at (map f (take i (drop from ts)))) (at + i) (f (getD ts (from + i) d)) ≡ put E at (map f (take (i + 1) (drop from ts)))
+-- a loop that writes f of one element after another
+module _ {A B : Type 0} (f : A → B) (E : List B) (at i : ℕ) (ts : List A) (d : A) (h : i < length ts) (g : at + i < length E) where
+  put-step : set (put E at (map f (take i ts))) (at + i) (f (getD ts i d)) ≡ put E at (map f (take (i + 1) ts))
   put-step =
-      let done = take i (drop from ts) in
-      let long : i < length (drop from ts) = omega (arith, length-drop from ts) in
-      put-more E at (map f done) (at + i) (f (getD ts (from + i) d))
-      (ap (λ n. at + n) (sym (length-map done f ∙ length-take-le i (drop from ts) (omega arith)))) g
-      ∙ ap (put E at) (sym (ap (map f) (take-more (drop from ts) i d long ∙ ap (λ x. done ++ x ∷ []) (getD-drop from ts i d))
-        ∙ map-push f done (getD ts (from + i) d)))
+      put-more E at (map f (take i ts)) (at + i) (f (getD ts i d))
+      (ap (λ n. at + n) (sym (length-map (take i ts) f ∙ length-take-le i ts (omega arith)))) g
+      ∙ ap (put E at) (sym (ap (map f) (take-more ts i d h) ∙ map-push f (take i ts) (getD ts i d)))
 
-  -- the same, with what is written and what was known by equations
-  pub put-turn : (out : List B) (y : B) → out ≡ put E at (map f (take i (drop from ts))) → y ≡ f (getD ts (from + i) d)
-      → set out (at + i) y ≡ put E at (map f (take (i + 1) (drop from ts)))
-  put-turn out y e n = ap (λ l. set l (at + i) y) e ∙ ap (set (put E at (map f (take i (drop from ts)))) (at + i)) n ∙ put-step
+  pub put-turn :
+      (out : List B) (y : B) → out ≡ put E at (map f (take i ts)) → y ≡ f (getD ts i d) → set out (at + i) y ≡ put E at (map f (take (i + 1) ts))
+  put-turn out y e n = ap (λ l. set l (at + i) y) e ∙ (ap (λ z. set (put E at (map f (take i ts))) (at + i) z) n ∙ put-step)
+
+pub map-three : {A B C D : Type 0} (f : C → D) (g : B → C) (h : A → B) (xs : List A) → map (λ x. f (g (h x))) xs ≡ map f (map g (map h xs))
+map-three f g h [] = refl
+map-three f g h (x ∷ xs) = ap (λ l. f (g (h x)) ∷ l) (map-three f g h xs)

@@ -1,3 +1,4 @@
 pub mod Names
 pub mod Measuring
 pub mod Pieces
+pub mod Writing

@@ -85,23 +85,19 @@ sizes-of v m = record {
   nodes = m .nodes;
 }
 
--- the row is a single command whose passive form can be measured
-abbrev pub Single-measurable : ℕ → CommandRow → NameMap → ℕ → Type 0
-Single-measurable v r m k =
-    (ops : ℕ) × (ts : List TermRow) × (c : Single) × (r .tag ≡ single-tag c) × Fields v ops ts r c × Fits (sizes (passify-single c (map-of v m) k))
+-- of the single command that a row is
+abbrev pub At-single : ℕ → List TermRow → CommandRow → (Single → Type 0) → Type 0
+At-single v ts r P = (ops : ℕ) (c : Single) → r .tag ≡ single-tag c → Fields v ops ts r c → P c
 
-abbrev pub Single-measured : ℕ → CommandRow → NameMap → ℕ → Measured → Type 0
-Single-measured v r m k s =
-    (ops : ℕ) (ts : List TermRow) (c : Single) → r .tag ≡ single-tag c → Fields v ops ts r c → sizes-of v s ≡ sizes (passify-single c (map-of v m) k)
+abbrev pub Some-single : ℕ → List TermRow → CommandRow → (Single → Type 0) → Type 0
+Some-single v ts r P = (ops : ℕ) × (c : Single) × (r .tag ≡ single-tag c) × Fields v ops ts r c × P c
 
--- a command whose passive form can be measured ends at the row
-abbrev pub Measurable : ℕ → List CommandRow → ℕ → Option NameMap → ℕ → Type 0
-Measurable v commands i m k =
-    (ops : ℕ) × (ts : List TermRow) × (c : Command) × Ends-at v ops commands ts i c × Fits (measured c (names-of v m) k)
+-- a command whose passive form can be measured ends at row i
+abbrev pub Measurable : ℕ → List CommandRow → List TermRow → ℕ → Option NameMap → ℕ → Type 0
+Measurable v cs ts i m k = (ops : ℕ) × (c : Command) × Ends-at v ops cs ts i c × Fits (measured c (names-of v m) k)
 
-abbrev pub Measures : ℕ → List CommandRow → ℕ → Option NameMap → ℕ → Measured → Type 0
-Measures v commands i m k s =
-    (ops : ℕ) (ts : List TermRow) (c : Command) → Ends-at v ops commands ts i c → sizes-of v s ≡ measured c (names-of v m) k
+abbrev pub Measures : ℕ → List CommandRow → List TermRow → ℕ → Option NameMap → ℕ → Measured → Type 0
+Measures v cs ts i m k s = (ops : ℕ) (c : Command) → Ends-at v ops cs ts i c → sizes-of v s ≡ measured c (names-of v m) k
 
 -- of a row whose tag is that of a joint
 abbrev pub At-joint : ℕ → (Joint → Type 0) → Type 0

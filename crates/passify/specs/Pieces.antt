@@ -1,7 +1,9 @@
 -- What the code writes, piece by piece: rows and their terms, from a place in the two tables on.
 use mathlib.Core.Path.{_≡_}
+use mathlib.Core.Bool.{cond}
 use mathlib.Core.List.{List, [], _∷_, _++_, map}
 use Prim.Native.Nat.{ℕ, _+_, _-_, _*_, _^_, _<_, _≤_}
+use lib.Dec.{eqb}
 use lib.ListN.{length}
 use Rattle.routine.specs.Commands.{reference}
 use Rattle.passive.specs.Passive.{Renamed, Passive}
@@ -30,6 +32,9 @@ old-terms rs = map (λ r. term-row (reference (r .old))) rs
 abbrev pub let-row : Renamed → ℕ → PassiveRow
 let-row r j = passive-row 9 (r .new) j 1 0
 
+abbrev pub let-piece : Renamed → ℕ → Piece
+let-piece r j = record { rows = let-row r j ∷ []; terms = term-row (reference (r .old)) ∷ [] }
+
 -- lets that follow others, from row i on: each with the sequence that joins it to those before
 abbrev pub more-lets : List Renamed → ℕ → ℕ → List PassiveRow
 more-lets [] i j = []
@@ -38,6 +43,11 @@ more-lets (r ∷ rs) i j = let-row r j ∷ joint-row 6 (i - 1) ∷ more-lets rs 
 abbrev pub lets : List Renamed → ℕ → ℕ → List PassiveRow
 lets [] i j = []
 lets (r ∷ rs) i j = let-row r j ∷ more-lets rs (i + 1) (j + 1)
+
+-- one more let, where the first of them stands at `start`
+abbrev pub next-let : Place → Renamed → Place → Piece
+next-let start r at =
+    cond (eqb (at .row) (start .row)) (let-piece r (at .term)) (let-piece r (at .term) then one-row (joint-row 6 (at .row - 1)))
 
 -- what tail and guard put behind a part that ends before row i
 abbrev pub tail-rows : List Renamed → ℕ → ℕ → List PassiveRow

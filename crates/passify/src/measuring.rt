@@ -1,15 +1,17 @@
 // Measuring: what the passive form of a command takes, and the maps that it ends with.
 ghost use mathlib.Core.Path.{_≡_};
+ghost use mathlib.Core.List.{List};
 ghost use Prim.Native.Nat.{ℕ, _+_, _^_, _<_, _≤_};
 ghost use Rattle.std.specs.declared.option.Option.the-variants.{Some, None};
-ghost use Rattle.passive.specs.Passive.{entry as entry-map, leaves-normal, leaves-raised};
+ghost use Rattle.passive.specs.Passive.{passify-single, entry as entry-map, leaves-normal, leaves-raised};
 ghost use Rattle.passive.specs.Outcomes.{joint-nodes as nodes-of-joint};
 ghost use Rattle.passify.specs.Names.{map-of, names-of};
-ghost use Rattle.passify.specs.Measuring.{guard-rows, guard-nodes, joined-sizes, Fits, sizes-of, Single-measurable, Single-measured, Measurable, Measures, At-joint, Some-joint};
+ghost use Rattle.passify.specs.Measuring.{guard-rows, guard-nodes, joined-sizes, sizes, Fits, sizes-of, At-single, Some-single, Measurable, Measures, At-joint, Some-joint};
 use crate::maps::NameMap;
 use crate::maps::merge;
 use kinds::numbered::Name;
 use routine::rows::CommandRow;
+use routine::rows::TermRow;
 
 #[derive(Clone, Copy)]
 pub struct Measured {
@@ -51,8 +53,8 @@ fn measure_normal(m: NameMap, next: u32, terms: u32, nodes: u32) -> Measured
 
 pub fn measure_single(row: CommandRow, v: u32, m: NameMap, next: u32) -> Measured
     requires few { ⌜ v ≤ 32 ⌝ }
-    requires measurable { ⌜ Single-measurable v row m next ⌝ }
-    ensures { λ r. ⌜ Single-measured v row m next r ⌝ }
+    requires measurable { ⌜ ((ts : List TermRow) × Some-single v ts row (λ c. Fits (sizes (passify-single c (map-of v m) next)))) ⌝ }
+    ensures { λ r. ⌜ ((ts : List TermRow) → At-single v ts row (λ c. sizes-of v r ≡ sizes (passify-single c (map-of v m) next))) ⌝ }
 {
     match row.tag {
         1 => measure_normal(m, next, row.count, row.count + 1),
@@ -152,8 +154,8 @@ pub fn measure_row(
     next: u32,
 ) -> Measured
     requires few { ⌜ v ≤ 32 ⌝ }
-    requires measurable { ⌜ Measurable v (now commands) at names next ⌝ }
-    ensures { λ r. ⌜ Measures v (now (commands .entry)) at names next r ⌝ }
+    requires measurable { ⌜ ((ts : List TermRow) × Measurable v (now commands) ts at names next) ⌝ }
+    ensures { λ r. ⌜ ((ts : List TermRow) → Measures v (now (commands .entry)) ts at names next r) ⌝ }
 {
     let Some(m) = names else {
         return measure_stop(next);
