@@ -10,3 +10,5 @@ pub mod Wrotes
 pub mod LetTurns
 pub mod Behind
 pub mod SinglePieces
+pub mod JoinPieces
+pub mod RowWrites

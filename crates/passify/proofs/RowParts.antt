@@ -91,7 +91,7 @@ module _ (v : ℕ) (cs : List CommandRow) (ts : List TermRow) (i : ℕ) (k : ℕ
       abbrev right-sizes : Joint → Command → Command → Sizes
       right-sizes j a b = measured b (entry j (map-of v m) (left-sizes a .normal) (left-sizes a .raised)) (left-sizes a .next)
 
-      fit-both :
+      pub fit-both :
           (ops : ℕ) (c : Command) (p : Parts v ops cs ts i c) → Fits (measured c (Some (map-of v m)) k)
           → Fits (left-sizes (p .first)) × Fits (right-sizes (p .joint) (p .first) (p .second))
       fit-both ops c p f =
@@ -109,7 +109,7 @@ module _ (v : ℕ) (cs : List CommandRow) (ts : List TermRow) (i : ℕ) (k : ℕ
       module _ (l : Measured) (ml : Measures v cs ts (at cs i .left) (Some m) k l) (start : Option NameMap)
         (enters : At-joint (at cs i .tag) (λ j. (v : ℕ) → names-of v start ≡ entry j (map-of v m) (names-of v (l .normal)) (names-of v (l .raised))))
         where
-        right-is :
+        pub right-is :
             (ops : ℕ) (c : Command) (p : Parts v ops cs ts i c)
             → measured (p .second) (names-of v start) (l .next) ≡ right-sizes (p .joint) (p .first) (p .second)
         right-is ops c p =

@@ -112,3 +112,36 @@ pub struct Passed {
     pub measured: Measured,
     pub end: Place,
 }
+
+// The passive form of the command that ends at row `i`. The renaming behind the left part needs the maps of the right part, so that is
+// measured before it is written.
+pub fn passify_row(commands: &[CommandRow], terms: &[TermRow], i: u32, v: u32, names: Option<NameMap>, next: u32, rows: &mut [PassiveRow], out: &mut [PassiveTermRow], at: Place) -> Passed
+    requires few { ⌜ v ≤ 32 ⌝ }
+    requires writable { ⌜ Writable v (now commands) (now terms) i names next at (now rows) (now out) ⌝ }
+    ensures { λ r. ⌜ Written v (now (commands .entry)) (now (terms .entry)) i names next at (now (rows .entry)) (now (rows .exit)) (now (out .entry)) (now (out .exit)) r ⌝ }
+{
+    let Some(m) = names else {
+        return Passed {
+            measured: measure_stop(next),
+            end: write_row(rows, at, joint_row(10, 0)),
+        };
+    };
+    let row = commands[i as usize];
+    if row.tag < 6 {
+        return Passed {
+            measured: measure_single(row, v, m, next),
+            end: passify_single(row, terms, v, &m, next, rows, out, at),
+        };
+    }
+    let left = passify_row(commands, terms, row.left, v, names, next, rows, out, at);
+    let start = entry(row.tag, m, left.measured);
+    let right = measure_row(commands, i - 1, v, start, left.measured.next);
+    let exits = left_exits(row.tag, left.measured);
+    let middle = write_side(v, exits.normal, right.normal, exits.raised, right.raised, right.next, rows, out, left.end);
+    let again = passify_row(commands, terms, i - 1, v, start, left.measured.next, rows, out, middle);
+    let behind = write_side(v, right.normal, exits.normal, right.raised, exits.raised, right.next, rows, out, again.end);
+    Passed {
+        measured: measure_joined(row.tag, v, left.measured, right),
+        end: write_row(rows, behind, joint_row(row.tag, middle.row - 1)),
+    }
+}
