@@ -12,3 +12,5 @@ pub mod Behind
 pub mod SinglePieces
 pub mod JoinPieces
 pub mod RowWrites
+pub mod Accepted
+pub mod Answering
