@@ -1,3 +1,5 @@
-// Tests of every limit: the last accepted value and the first refused one.
+// Tests of every limit: the last accepted value and the first refused one; and passive forms worked out by hand.
+#[cfg(test)]
+mod forms;
 #[cfg(test)]
 mod routines;

@@ -19,7 +19,7 @@ use std::alloc::Global;
 use std::test::Fail;
 use std::test::check_eq;
 
-fn row(tag: u32, target: u32, from: u32, count: u32, left: u32) -> CommandRow {
+pub fn row(tag: u32, target: u32, from: u32, count: u32, left: u32) -> CommandRow {
     CommandRow {
         tag,
         target,
@@ -29,7 +29,7 @@ fn row(tag: u32, target: u32, from: u32, count: u32, left: u32) -> CommandRow {
     }
 }
 
-fn item(tag: u32, number: u16) -> TermRow {
+pub fn item(tag: u32, number: u16) -> TermRow {
     TermRow { tag, number }
 }
 

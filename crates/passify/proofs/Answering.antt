@@ -103,26 +103,29 @@ module _ (v : ℕ) (d : Result Command Refusal) (c : Command) (is : d ≡ Ok c) 
 
 -- the whole routine, written from the front
 module _ (v ops : ℕ) (cs : List CommandRow) (ts : List TermRow) (c : Command) (is : decode v ops cs ts ≡ Ok c) (m : NameMap) (first : map-of v m ≡ names-from 0 v)
-  (E : List PassiveRow) (T : List PassiveTermRow)
+    (E : List PassiveRow) (T : List PassiveTermRow)
   where
-  abbrev front : Place
-  front = record { row = 0; term = 0 }
+    abbrev front : Place
+    front = record { row = 0; term = 0 }
 
-  same-form : passify c (Some (map-of v m)) v ≡ passive-form v c
-  same-form = ap (λ n. passify c (Some n) v) first
+    same-form : passify c (Some (map-of v m)) v ≡ passive-form v c
+    same-form = ap (λ n. passify c (Some n) v) first
 
-  pub form-writable : Room (form-piece (passive-form v c .code) 0 0) front E T → Writable v cs ts (length cs - 1) (Some m) v front E T
-  form-writable room =
-      ( ops, c, stands v ops cs ts c is .ends
-      , subst Fits (sym (start-is v cs m first c)) (form-fits v ops cs ts c is)
-      , subst (λ (p : Passified). Room (form-piece (p .code) 0 0) front E T) (sym same-form) room)
+    pub form-writable : Room (form-piece (passive-form v c .code) 0 0) front E T → Writable v cs ts (length cs - 1) (Some m) v front E T
+    form-writable room = (
+      ops,
+      c,
+      stands v ops cs ts c is .ends,
+      subst Fits (sym (start-is v cs m first c)) (form-fits v ops cs ts c is),
+      subst (λ (p : Passified). Room (form-piece (p .code) 0 0) front E T) (sym same-form) room,
+    )
 
-  pub form-written :
-      (E′ : List PassiveRow) (T′ : List PassiveTermRow) (r : Passed) → Written v cs ts (length cs - 1) (Some m) v front E E′ T T′ r
-      → (E′ ≡ put E 0 (layout (passive-form v c .code) 0 0)) × (T′ ≡ put T 0 (term-rows (passive-form v c .code)))
-  form-written E′ T′ r w =
-      let z = subst (λ (p : Passified). Wrote (form-piece (p .code) 0 0) front E E′ T T′ (r .end)) same-form (w ops c (stands v ops cs ts c is .ends) .1) in
-      (z .rows-in, z .terms-in)
+    pub form-written :
+        (E′ : List PassiveRow) (T′ : List PassiveTermRow) (r : Passed) → Written v cs ts (length cs - 1) (Some m) v front E E′ T T′ r
+        → (E′ ≡ put E 0 (layout (passive-form v c .code) 0 0)) × (T′ ≡ put T 0 (term-rows (passive-form v c .code)))
+    form-written E′ T′ r w =
+        let z = subst (λ (p : Passified). Wrote (form-piece (p .code) 0 0) front E E′ T T′ (r .end)) same-form (w ops c (stands v ops cs ts c is .ends) .1) in
+        (z .rows-in, z .terms-in)
 
 pub agrees : {V : Type 0} (K : KindOf V) (v : ℕ) (cs : List CommandRow) (ts : List TermRow) → Agrees-with-runs K v (decode v (K .ops) cs ts)
 agrees K v cs ts c is = (agreement K v (K .ops) c (proper v (K .ops) cs ts c is), bounds v (K .ops) cs ts c is)

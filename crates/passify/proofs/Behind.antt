@@ -49,9 +49,9 @@ guard-split r rs i j e is =
     let l = lets (r ∷ rs) i j in
     λ t. record {
       rows =
-        (append-assoc (l ++ plain-row 5 ∷ []) (joint-row 6 (e - 1) ∷ []) (joint-row 8 (i - 1) ∷ [])
-        ∙ (append-assoc l (plain-row 5 ∷ []) (joint-row 6 (e - 1) ∷ joint-row 8 (i - 1) ∷ [])
-        ∙ ap (λ n. l ++ (plain-row 5 ∷ joint-row 6 n ∷ joint-row 8 (i - 1) ∷ [])) last)) t;
+          (append-assoc (l ++ plain-row 5 ∷ []) (joint-row 6 (e - 1) ∷ []) (joint-row 8 (i - 1) ∷ [])
+          ∙ (append-assoc l (plain-row 5 ∷ []) (joint-row 6 (e - 1) ∷ joint-row 8 (i - 1) ∷ [])
+          ∙ ap (λ n. l ++ (plain-row 5 ∷ joint-row 6 n ∷ joint-row 8 (i - 1) ∷ [])) last)) t;
       terms = (append-nil ((old-terms (r ∷ rs) ++ []) ++ []) ∙ (append-nil (old-terms (r ∷ rs) ++ []) ∙ append-nil (old-terms (r ∷ rs)))) t;
     }
 
@@ -126,8 +126,8 @@ module _ (at : Place) (E : List PassiveRow) (T : List PassiveTermRow) where
               ≡ lets-piece rs (at .row) (at .term) then ((one-row (plain-row 5) then one-row (joint-row 6 (e .row - 1))) then one-row (joint-row 8 (at .row - 1)))
           assoc = λ t. record {
             rows =
-              (append-assoc (lets rs (at .row) (at .term) ++ plain-row 5 ∷ []) (joint-row 6 (e .row - 1) ∷ []) (joint-row 8 (at .row - 1) ∷ [])
-              ∙ append-assoc (lets rs (at .row) (at .term)) (plain-row 5 ∷ []) (joint-row 6 (e .row - 1) ∷ joint-row 8 (at .row - 1) ∷ [])) t;
+                (append-assoc (lets rs (at .row) (at .term) ++ plain-row 5 ∷ []) (joint-row 6 (e .row - 1) ∷ []) (joint-row 8 (at .row - 1) ∷ [])
+                ∙ append-assoc (lets rs (at .row) (at .term)) (plain-row 5 ∷ []) (joint-row 6 (e .row - 1) ∷ joint-row 8 (at .row - 1) ∷ [])) t;
             terms = (append-nil ((old-terms rs ++ []) ++ []) ∙ append-nil (old-terms rs ++ [])) t;
           }
 
@@ -139,24 +139,24 @@ module _ (at : Place) (E : List PassiveRow) (T : List PassiveTermRow) where
 
 -- the guard behind a tail stands where the tail ends
 module _ (v : ℕ) (na nb xa xb : Option NameMap) (k : ℕ) (at : Place) (E E1 : List PassiveRow) (T T1 : List PassiveTermRow) (e : Place) (k′ : ℕ)
-  (w : Wrote (tail-piece (renamings v na nb k) (at .row) (at .term)) at E E1 T T1 e) (next : k′ ≡ next-after v na nb k)
+    (w : Wrote (tail-piece (renamings v na nb k) (at .row) (at .term)) at E E1 T T1 e) (next : k′ ≡ next-after v na nb k)
   where
-  abbrev tail-there : Piece
-  tail-there = tail-piece (renamings v na nb k) (at .row) (at .term)
+    abbrev tail-there : Piece
+    tail-there = tail-piece (renamings v na nb k) (at .row) (at .term)
 
-  abbrev guard-there : Piece
-  guard-there = guard-piece (renamings v xa xb k′) (e .row) (e .term)
+    abbrev guard-there : Piece
+    guard-there = guard-piece (renamings v xa xb k′) (e .row) (e .term)
 
-  sides-are : tail-there then guard-there ≡ side v na nb xa xb k at
-  sides-are =
-      let i : e .row ≡ at .row + 2 * length (renamings v na nb k) = w .row-end ∙ ap (λ n. at .row + n) (length-tail-rows (renamings v na nb k) (at .row) (at .term)) in
-      let j : e .term ≡ at .term + length (renamings v na nb k) = w .term-end ∙ ap (λ n. at .term + n) (length-old-terms (renamings v na nb k)) in
-      λ t. tail-there then guard-piece (renamings v xa xb (next t)) (i t) (j t)
+    sides-are : tail-there then guard-there ≡ side v na nb xa xb k at
+    sides-are =
+        let i : e .row ≡ at .row + 2 * length (renamings v na nb k) = w .row-end ∙ ap (λ n. at .row + n) (length-tail-rows (renamings v na nb k) (at .row) (at .term)) in
+        let j : e .term ≡ at .term + length (renamings v na nb k) = w .term-end ∙ ap (λ n. at .term + n) (length-old-terms (renamings v na nb k)) in
+        λ t. tail-there then guard-piece (renamings v xa xb (next t)) (i t) (j t)
 
-  pub guard-room : Room (side v na nb xa xb k at) at E T → Room guard-there e E1 T1
-  guard-room r = room-second tail-there guard-there w (room-as (sym sides-are) r)
+    pub guard-room : Room (side v na nb xa xb k at) at E T → Room guard-there e E1 T1
+    guard-room r = room-second tail-there guard-there w (room-as (sym sides-are) r)
 
-  pub side-written :
-      (E2 : List PassiveRow) (T2 : List PassiveTermRow) (f : Place) → Wrote guard-there e E1 E2 T1 T2 f → at .row ≤ length E → at .term ≤ length T
-      → Wrote (side v na nb xa xb k at) at E E2 T T2 f
-  side-written E2 T2 f u hr ht = wrote-as sides-are (wrote-then w u hr ht)
+    pub side-written :
+        (E2 : List PassiveRow) (T2 : List PassiveTermRow) (f : Place) → Wrote guard-there e E1 E2 T1 T2 f → at .row ≤ length E → at .term ≤ length T
+        → Wrote (side v na nb xa xb k at) at E E2 T T2 f
+    side-written E2 T2 f u hr ht = wrote-as sides-are (wrote-then w u hr ht)

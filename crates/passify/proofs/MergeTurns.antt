@@ -74,7 +74,7 @@ module _ (v : ℕ) (ks bs : List Name) where
         let l = firsts-length v ks in
         let r = firsts-length v ns in
         let both : at (firsts v ns) i ∷ drop (i + 1) (firsts v ns) ≡ at (firsts v ks) i ∷ drop (i + 1) (firsts v ks) =
-              sym (drop-more (firsts v ns) i (name 0) (omega arith)) ∙ (s .after ∙ drop-more (firsts v ks) i (name 0) (omega arith)) in
+        sym (drop-more (firsts v ns) i (name 0) (omega arith)) ∙ (s .after ∙ drop-more (firsts v ks) i (name 0) (omega arith)) in
         let first : at (firsts v ns) i ≡ at (firsts v ks) i = cc in
         (first ∙ firsts-at v ks i h, cc)
 
@@ -85,8 +85,8 @@ module _ (v : ℕ) (ks bs : List Name) where
         record {
           long = s .long;
           names =
-            ap (λ l. l ++ rest (i + 1) k .names) (take-more (firsts v ns) i (name 0) (omega arith) ∙ ap (λ x. take i (firsts v ns) ++ x ∷ []) (here .0))
-            ∙ (append-assoc (take i (firsts v ns)) (at ks i ∷ []) _ ∙ (ap (λ (m : Merged). take i (firsts v ns) ++ m .names) (sym now) ∙ s .names));
+              ap (λ l. l ++ rest (i + 1) k .names) (take-more (firsts v ns) i (name 0) (omega arith) ∙ ap (λ x. take i (firsts v ns) ++ x ∷ []) (here .0))
+              ∙ (append-assoc (take i (firsts v ns)) (at ks i ∷ []) _ ∙ (ap (λ (m : Merged). take i (firsts v ns) ++ m .names) (sym now) ∙ s .names));
           after = here .1;
           next = ap (λ (m : Merged). m .next) (sym now) ∙ s .next;
           few = omega (arith, s .few);
@@ -106,9 +106,9 @@ module _ (v : ℕ) (ks bs : List Name) where
           record {
             long = length-set ns i (name k) ∙ s .long;
             names =
-              ap (λ l. take (i + 1) l ++ rest (i + 1) (k + 1) .names) written
-              ∙ (ap (λ l. l ++ rest (i + 1) (k + 1) .names) (take-more-set (firsts v ns) i (name k) (omega arith))
-              ∙ (append-assoc (take i (firsts v ns)) (name k ∷ []) _ ∙ (ap (λ (m : Merged). take i (firsts v ns) ++ m .names) (sym now) ∙ s .names)));
+                ap (λ l. take (i + 1) l ++ rest (i + 1) (k + 1) .names) written
+                ∙ (ap (λ l. l ++ rest (i + 1) (k + 1) .names) (take-more-set (firsts v ns) i (name k) (omega arith))
+                ∙ (append-assoc (take i (firsts v ns)) (name k ∷ []) _ ∙ (ap (λ (m : Merged). take i (firsts v ns) ++ m .names) (sym now) ∙ s .names)));
             after = ap (drop (i + 1)) written ∙ (drop-set-lt (i + 1) (firsts v ns) i (name k) (omega arith) ∙ here .1);
             next = ap (λ (m : Merged). m .next) (sym now) ∙ s .next;
             few = omega (arith, s .few);
@@ -126,8 +126,8 @@ module _ (v : ℕ) (ks bs : List Name) where
       let r = firsts-length v ns in
       record {
         names =
-          sym (append-nil (firsts v ns))
-          ∙ (ap (λ l. l ++ []) (sym (take-all i (firsts v ns) (omega arith))) ∙ (ap (λ (m : Merged). take i (firsts v ns) ++ m .names) (sym end) ∙ s .names));
+            sym (append-nil (firsts v ns))
+            ∙ (ap (λ l. l ++ []) (sym (take-all i (firsts v ns) (omega arith))) ∙ (ap (λ (m : Merged). take i (firsts v ns) ++ m .names) (sym end) ∙ s .names));
         next = ap (λ (m : Merged). m .next) (sym end) ∙ s .next;
         renamed = omega (arith, ap (λ (m : Merged). length (m .left)) end, s .renamed);
       }

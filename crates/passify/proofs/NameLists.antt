@@ -35,7 +35,6 @@ firsts-set (suc v) (x ∷ xs) (suc i) f h = ap (λ l. x ∷ l) (firsts-set v xs 
 
 -- where name i stands at i, the first v are the names from 0 on
 
-
 numbered-from :
     (v : ℕ) (xs : List Name) (k : ℕ) → ((i : ℕ) → i < v → getD xs i (name 0) ≡ name (k + i)) → firsts v xs ≡ names-from k v
 numbered-from zero xs k h = refl

@@ -20,8 +20,12 @@ length-layout (p-single p) i j = refl
 length-layout (p-join o p q) i j =
     let l = layout q (i + rows p) (j + length (terms p)) in
     length-append (layout p i j) (l ++ (joint-row (joint-tag o) (i + rows p - 1) ∷ []))
-    ∙ omega (arith, length-append l (joint-row (joint-tag o) (i + rows p - 1) ∷ []), length-layout p i j,
-      length-layout q (i + rows p) (j + length (terms p)))
+    ∙ omega (
+      arith,
+      length-append l (joint-row (joint-tag o) (i + rows p - 1) ∷ []),
+      length-layout p i j,
+      length-layout q (i + rows p) (j + length (terms p)),
+    )
 
 pub length-term-rows : (p : Passive) → length (term-rows p) ≡ length (terms p)
 length-term-rows p = length-map (terms p) term-row
@@ -143,7 +147,7 @@ join-is : (o : Joint) (p q : Passive) (i j i1 j1 : ℕ) → i1 ≡ i + rows p �
 join-is o p q i j i1 j1 e f =
     piece _ _
     ((λ t. layout p i j ++ (layout q (sym e t) (sym f t) ++ (joint-row (joint-tag o) (sym e t - 1) ∷ [])))
-      ∙ sym (append-assoc (layout p i j) (layout q i1 j1) _))
+    ∙ sym (append-assoc (layout p i j) (layout q i1 j1) _))
     (term-rows-join o p q ∙ sym (append-nil (term-rows p ++ term-rows q)))
 
 module _ (o : Joint) (p q : Passive) (n x n′ x′ : List Renamed) (i j i1 j1 i2 j2 i3 j3 : ℕ) where
@@ -162,7 +166,7 @@ module _ (o : Joint) (p q : Passive) (n x n′ x′ : List Renamed) (i j i1 j1 i
       (omega (arith, h .rows-more, length-side-rows n x i1 j1)) (omega (arith, h .terms-more, length-side-terms n x i1 j1))
       ∙ (λ t. (part-is p n x i j t then part-is q n′ x′ i2 j2 t) then last)
       ∙ (λ t. ((form-piece p i j then side-piece n x (sym e1 t) (sym f1 t))
-        then (form-piece q i2 j2 then side-piece n′ x′ (sym e3 t) (sym f3 t))) then last)
+      then (form-piece q i2 j2 then side-piece n′ x′ (sym e3 t) (sym f3 t))) then last)
       ∙ ap (λ (z : Piece). z then last) (sym (then-assoc first (form-piece q i2 j2) (side-piece n′ x′ i3 j3)))
 
 pub joined-is : (o : Joint) (a b : Passified) (i j i1 j1 i2 j2 i3 j3 : ℕ) →
@@ -172,7 +176,7 @@ pub joined-is : (o : Joint) (a b : Passified) (i j i1 j1 i2 j2 i3 j3 : ℕ) →
     → i3 ≡ i2 + rows (b .code) → j3 ≡ j2 + length (terms (b .code))
     → form-piece (joined o a b .code) i j
     ≡ (((form-piece (a .code) i j then side-piece (n .left) (x .left) i1 j1) then form-piece (b .code) i2 j2)
-      then side-piece (n .right) (x .right) i3 j3)
+    then side-piece (n .right) (x .right) i3 j3)
     then one-row (joint-row (joint-tag o) (i2 - 1))
 joined-is o a b i j i1 j1 i2 j2 i3 j3 =
     let n = normal-merge o a b in let x = raised-merge o a b in

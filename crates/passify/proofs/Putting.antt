@@ -42,7 +42,7 @@ module _ {X : Type 0} where
       ∙ ap (λ l. (take i xs ++ ys) ++ (zs ++ l)) (drop-put-more xs i ys (length zs) h)
       ∙ append-assoc (take i xs) ys _
       ∙ ap (λ l. take i xs ++ l) (sym (append-assoc ys zs _)
-        ∙ ap (λ n. (ys ++ zs) ++ drop n xs) (add-assoc i (length ys) (length zs) ∙ ap (λ n. i + n) (sym (length-append ys zs))))
+      ∙ ap (λ n. (ys ++ zs) ++ drop n xs) (add-assoc i (length ys) (length zs) ∙ ap (λ n. i + n) (sym (length-append ys zs))))
 
   -- one write behind another, with the tables and the place known by equations
   pub then-put : (E F G : List X) (i p : ℕ) (ys zs : List X) → i ≤ length E → F ≡ put E i ys → p ≡ i + length ys → G ≡ put F p zs

@@ -107,36 +107,36 @@ module _ (v : ℕ) (cs : List CommandRow) (ts : List TermRow) (i : ℕ) (k : ℕ
       left-measurable (ops, c, e, f) = let p = parts v ops cs ts i c e big in (ops, p .first, p .at-left, fit-both ops c p f .0)
 
       module _ (l : Measured) (ml : Measures v cs ts (at cs i .left) (Some m) k l) (start : Option NameMap)
-        (enters : At-joint (at cs i .tag) (λ j. (v : ℕ) → names-of v start ≡ entry j (map-of v m) (names-of v (l .normal)) (names-of v (l .raised))))
+          (enters : At-joint (at cs i .tag) (λ j. (v : ℕ) → names-of v start ≡ entry j (map-of v m) (names-of v (l .normal)) (names-of v (l .raised))))
         where
-        pub right-is :
-            (ops : ℕ) (c : Command) (p : Parts v ops cs ts i c)
-            → measured (p .second) (names-of v start) (l .next) ≡ right-sizes (p .joint) (p .first) (p .second)
-        right-is ops c p =
-            let is = ml ops (p .first) (p .at-left) in
-            let from = enters (p .joint) (p .tagged) v ∙ ap (λ (s : Sizes). entry (p .joint) (map-of v m) (s .normal) (s .raised)) is in
-            λ t. measured (p .second) (from t) (is t .next)
-
-        pub right-measurable : Measurable v cs ts i (Some m) k → Measurable v cs ts (i - 1) start (l .next)
-        right-measurable (ops, c, e, f) =
-            let p = parts v ops cs ts i c e big in
-            (ops, p .second, p .at-right, subst Fits (sym (right-is ops c p)) (fit-both ops c p f .1))
-
-        module _ (r : Measured) (mr : Measures v cs ts (i - 1) start (l .next) r) where
-          whole-is :
+          pub right-is :
               (ops : ℕ) (c : Command) (p : Parts v ops cs ts i c)
-              → joined-sizes (p .joint) (sizes-of v l) (sizes-of v r) ≡ measured c (Some (map-of v m)) k
-          whole-is ops c p =
-              let is-left = ml ops (p .first) (p .at-left) in
-              let is-right = mr ops (p .second) (p .at-right) ∙ right-is ops c p in
-              (λ t. joined-sizes (p .joint) (is-left t) (is-right t)) ∙ ap (λ (x : Command). measured x (Some (map-of v m)) k) (sym (p .is))
+              → measured (p .second) (names-of v start) (l .next) ≡ right-sizes (p .joint) (p .first) (p .second)
+          right-is ops c p =
+              let is = ml ops (p .first) (p .at-left) in
+              let from = enters (p .joint) (p .tagged) v ∙ ap (λ (s : Sizes). entry (p .joint) (map-of v m) (s .normal) (s .raised)) is in
+              λ t. measured (p .second) (from t) (is t .next)
 
-          pub joined-fits : Measurable v cs ts i (Some m) k → Some-joint (at cs i .tag) (λ j. Fits (joined-sizes j (sizes-of v l) (sizes-of v r)))
-          joined-fits (ops, c, e, f) =
+          pub right-measurable : Measurable v cs ts i (Some m) k → Measurable v cs ts (i - 1) start (l .next)
+          right-measurable (ops, c, e, f) =
               let p = parts v ops cs ts i c e big in
-              (p .joint, p .tagged, subst Fits (sym (whole-is ops c p)) f)
+              (ops, p .second, p .at-right, subst Fits (sym (right-is ops c p)) (fit-both ops c p f .1))
 
-          pub joined-measures :
-              (z : Measured) → At-joint (at cs i .tag) (λ j. sizes-of v z ≡ joined-sizes j (sizes-of v l) (sizes-of v r))
-              → Measures v cs ts i (Some m) k z
-          joined-measures z h ops c e = let p = parts v ops cs ts i c e big in h (p .joint) (p .tagged) ∙ whole-is ops c p
+          module _ (r : Measured) (mr : Measures v cs ts (i - 1) start (l .next) r) where
+            whole-is :
+                (ops : ℕ) (c : Command) (p : Parts v ops cs ts i c)
+                → joined-sizes (p .joint) (sizes-of v l) (sizes-of v r) ≡ measured c (Some (map-of v m)) k
+            whole-is ops c p =
+                let is-left = ml ops (p .first) (p .at-left) in
+                let is-right = mr ops (p .second) (p .at-right) ∙ right-is ops c p in
+                (λ t. joined-sizes (p .joint) (is-left t) (is-right t)) ∙ ap (λ (x : Command). measured x (Some (map-of v m)) k) (sym (p .is))
+
+            pub joined-fits : Measurable v cs ts i (Some m) k → Some-joint (at cs i .tag) (λ j. Fits (joined-sizes j (sizes-of v l) (sizes-of v r)))
+            joined-fits (ops, c, e, f) =
+                let p = parts v ops cs ts i c e big in
+                (p .joint, p .tagged, subst Fits (sym (whole-is ops c p)) f)
+
+            pub joined-measures :
+                (z : Measured) → At-joint (at cs i .tag) (λ j. sizes-of v z ≡ joined-sizes j (sizes-of v l) (sizes-of v r))
+                → Measures v cs ts i (Some m) k z
+            joined-measures z h ops c e = let p = parts v ops cs ts i c e big in h (p .joint) (p .tagged) ∙ whole-is ops c p

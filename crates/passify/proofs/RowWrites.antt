@@ -60,19 +60,26 @@ module _ (v : ℕ) (cs : List CommandRow) (ts : List TermRow) (i k : ℕ) (s : P
     module _ (small : at cs i .tag < 6) where
       pub single-writable : Writable v cs ts i (Some m) k s E T → Some-single v ts (at cs i) (Single-writable v m k s E T)
       single-writable (ops, c, e, f, room) =
-          let a = alone v ops cs ts i c e small in
-          ( ops, a .command, a .tagged, a .fields
-          , ( subst (λ (x : Command). Fits (measured x (Some (map-of v m)) k)) (a .is) f
-            , subst (λ (x : Command). Room (command-piece v (Some m) k x s) s E T) (a .is) room))
+          let a = alone v ops cs ts i c e small in (
+            ops,
+            a .command,
+            a .tagged,
+            a .fields,
+            (
+              subst (λ (x : Command). Fits (measured x (Some (map-of v m)) k)) (a .is) f,
+              subst (λ (x : Command). Room (command-piece v (Some m) k x s) s E T) (a .is) room,
+            ),
+          )
 
       pub single-written :
           (E′ : List PassiveRow) (T′ : List PassiveTermRow) (r : Passed)
           → At-single v ts (at cs i) (λ c. sizes-of v (r .measured) ≡ sizes (passify-single c (map-of v m) k))
           → At-single v ts (at cs i) (λ c. Wrote (single-piece v m k c s) s E E′ T T′ (r .end)) → Written v cs ts i (Some m) k s E E′ T T′ r
       single-written E′ T′ r hm hw ops c e =
-          let a = alone v ops cs ts i c e small in
-          ( single-measured v cs ts i k m small (r .measured) hm ops c e
-          , subst (λ (x : Command). Wrote (command-piece v (Some m) k x s) s E E′ T T′ (r .end)) (sym (a .is)) (hw ops (a .command) (a .tagged) (a .fields)))
+          let a = alone v ops cs ts i c e small in (
+            single-measured v cs ts i k m small (r .measured) hm ops c e,
+            subst (λ (x : Command). Wrote (command-piece v (Some m) k x s) s E E′ T T′ (r .end)) (sym (a .is)) (hw ops (a .command) (a .tagged) (a .fields)),
+          )
 
     -- two parts joined
     module _ (big : 6 ≤ at cs i .tag) where
@@ -101,140 +108,148 @@ module _ (v : ℕ) (cs : List CommandRow) (ts : List TermRow) (i k : ℕ) (s : P
 
       pub left-writable : Writable v cs ts i (Some m) k s E T → Writable v cs ts (at cs i .left) (Some m) k s E T
       left-writable (ops, c, e, f, room) =
-          let p = parts v ops cs ts i c e big in
-          ( ops, p .first, p .at-left, fit-both v cs ts i k m big ops c p f .0
-          , first-room (p .joint) (left-form (p .first)) (right-form (p .joint) (p .first) (p .second)) s E T (whole-room ops c p room))
+          let p = parts v ops cs ts i c e big in (
+            ops,
+            p .first,
+            p .at-left,
+            fit-both v cs ts i k m big ops c p f .0,
+            first-room (p .joint) (left-form (p .first)) (right-form (p .joint) (p .first) (p .second)) s E T (whole-room ops c p room),
+          )
 
       -- the left part is written, the right part measured
       module _ (left : Passed) (E1 : List PassiveRow) (T1 : List PassiveTermRow) (wl : Written v cs ts (at cs i .left) (Some m) k s E E1 T T1 left)
-        (start : Option NameMap)
-        (enters : At-joint (at cs i .tag) (λ j. (v : ℕ) → names-of v start ≡ entry j (map-of v m) (names-of v (left .measured .normal)) (names-of v (left .measured .raised))))
+          (start : Option NameMap)
+          (enters : At-joint (at cs i .tag) (λ j. (v : ℕ) → names-of v start ≡ entry j (map-of v m) (names-of v (left .measured .normal)) (names-of v (left .measured .raised))))
         where
-        pub left-measures : Measures v cs ts (at cs i .left) (Some m) k (left .measured)
-        left-measures ops c e = wl ops c e .0
+          pub left-measures : Measures v cs ts (at cs i .left) (Some m) k (left .measured)
+          left-measures ops c e = wl ops c e .0
 
-        pub right-measured : Writable v cs ts i (Some m) k s E T → Measurable v cs ts (i - 1) start (left .measured .next)
-        right-measured (ops, c, e, f, room) = right-measurable v cs ts i k m big (left .measured) left-measures start enters (ops, c, e, f)
+          pub right-measured : Writable v cs ts i (Some m) k s E T → Measurable v cs ts (i - 1) start (left .measured .next)
+          right-measured (ops, c, e, f, room) = right-measurable v cs ts i k m big (left .measured) left-measures start enters (ops, c, e, f)
 
-        module _ (r : Measured) (mr : Measures v cs ts (i - 1) start (left .measured .next) r) (out : Leaving)
-          (leaves-n : At-joint (at cs i .tag) (λ j. (v : ℕ) → names-of v (out .normal) ≡ leaves-normal j (names-of v (left .measured .normal))))
-          (leaves-x : At-joint (at cs i .tag) (λ j. (v : ℕ) → names-of v (out .raised) ≡ leaves-raised j (names-of v (left .measured .raised))))
-          where
-          -- of the command c, whose parts are p
-          module _ (ops : ℕ) (c : Command) (p : Parts v ops cs ts i c) where
-            abbrev j : Joint
-            j = p .joint
-
-            abbrev pa : Passified
-            pa = left-form (p .first)
-
-            abbrev pb : Passified
-            pb = right-form (p .joint) (p .first) (p .second)
-
-            left-is : sizes-of v (left .measured) ≡ sizes pa
-            left-is = wl ops (p .first) (p .at-left) .0 ∙ measured-is (p .first) (Some (map-of v m)) k
-
-            second-is : passify (p .second) (names-of v start) (left .measured .next) ≡ pb
-            second-is =
-                let from = enters j (p .tagged) v ∙ ap (λ (z : Sizes). entry j (map-of v m) (z .normal) (z .raised)) left-is in
-                λ t. passify (p .second) (from t) (left-is t .next)
-
-            right-is : sizes-of v r ≡ sizes pb
-            right-is = mr ops (p .second) (p .at-right) ∙ (measured-is (p .second) (names-of v start) (left .measured .next) ∙ ap sizes second-is)
-
-            w1 : Wrote (form-piece (pa .code) (s .row) (s .term)) s E E1 T T1 (left .end)
-            w1 = wl ops (p .first) (p .at-left) .1
-
-            ln : names-of v (out .normal) ≡ leaves-normal j (names-of v (left .measured .normal))
-            ln = leaves-n j (p .tagged) v
-
-            lx : names-of v (out .raised) ≡ leaves-raised j (names-of v (left .measured .raised))
-            lx = leaves-x j (p .tagged) v
-
-          pub left-side-room : Writable v cs ts i (Some m) k s E T → Side-room v (out .normal) (r .normal) (out .raised) (r .raised) (r .next) (left .end) E1 T1
-          left-side-room w =
-              let ops = w .0 in
-              let c = w .1 in
-              let p = parts v ops cs ts i c (w .2) big in
-              let h = in-tables w in
-              record {
-                names = left-names v (p .joint) (pa ops c p) (pb ops c p) (left .measured) r (left-is ops c p) (right-is ops c p) out (ln ops c p) (lx ops c p) (whole-fits ops c p (w .3));
-                behind =
-                  left-behind v (p .joint) (pa ops c p) (pb ops c p) (left .measured) r (left-is ops c p) (right-is ops c p) out (ln ops c p) (lx ops c p) s E T E1 T1 (left .end)
-                  (w1 ops c p) (h .0) (h .1);
-                room =
-                  left-room v (p .joint) (pa ops c p) (pb ops c p) (left .measured) r (left-is ops c p) (right-is ops c p) out (ln ops c p) (lx ops c p) s E T E1 T1 (left .end)
-                  (w1 ops c p) (h .0) (h .1) (whole-room ops c p (w .4));
-              }
-
-          module _ (E2 : List PassiveRow) (T2 : List PassiveTermRow) (p2 : Place)
-            (u2 : Wrote (side v (out .normal) (r .normal) (out .raised) (r .raised) (r .next) (left .end)) (left .end) E1 E2 T1 T2 p2)
+          module _ (r : Measured) (mr : Measures v cs ts (i - 1) start (left .measured .next) r) (out : Leaving)
+              (leaves-n : At-joint (at cs i .tag) (λ j. (v : ℕ) → names-of v (out .normal) ≡ leaves-normal j (names-of v (left .measured .normal))))
+              (leaves-x : At-joint (at cs i .tag) (λ j. (v : ℕ) → names-of v (out .raised) ≡ leaves-raised j (names-of v (left .measured .raised))))
             where
-            pub right-writable : Writable v cs ts i (Some m) k s E T → Writable v cs ts (i - 1) start (left .measured .next) p2 E2 T2
-            right-writable w =
-                let ops = w .0 in
-                let c = w .1 in
-                let p = parts v ops cs ts i c (w .2) big in
-                let h = in-tables w in
-                ( ops, p .second, p .at-right
-                , subst Fits (sym (parts-right v cs ts i k m big (left .measured) left-measures start enters ops c p)) (fit-both v cs ts i k m big ops c p (w .3) .1)
-                , subst (λ (x : Passified). Room (form-piece (x .code) (p2 .row) (p2 .term)) p2 E2 T2) (sym (second-is ops c p))
-                  (second-room v (p .joint) (pa ops c p) (pb ops c p) (left .measured) r (left-is ops c p) (right-is ops c p) out (ln ops c p) (lx ops c p) s E T E1 T1 (left .end)
-                    (w1 ops c p) (h .0) (h .1) E2 T2 p2 u2 (whole-room ops c p (w .4))))
+              -- of the command c, whose parts are p
+              module _ (ops : ℕ) (c : Command) (p : Parts v ops cs ts i c) where
+                abbrev j : Joint
+                j = p .joint
 
-            pub middle-some : Writable v cs ts i (Some m) k s E T → 0 < p2 .row
-            middle-some w =
-                let ops = w .0 in
-                let c = w .1 in
-                let p = parts v ops cs ts i c (w .2) big in
-                let h = in-tables w in
-                middle-behind v (p .joint) (pa ops c p) (pb ops c p) (left .measured) r (left-is ops c p) (right-is ops c p) out (ln ops c p) (lx ops c p) s E T E1 T1 (left .end)
-                (w1 ops c p) (h .0) (h .1) E2 T2 p2 u2
+                abbrev pa : Passified
+                pa = left-form (p .first)
 
-            module _ (again : Passed) (E3 : List PassiveRow) (T3 : List PassiveTermRow) (wr : Written v cs ts (i - 1) start (left .measured .next) p2 E2 E3 T2 T3 again) where
-              u3 : (ops : ℕ) (c : Command) (p : Parts v ops cs ts i c) → Wrote (form-piece (pb ops c p .code) (p2 .row) (p2 .term)) p2 E2 E3 T2 T3 (again .end)
-              u3 ops c p =
-                  subst (λ (x : Passified). Wrote (form-piece (x .code) (p2 .row) (p2 .term)) p2 E2 E3 T2 T3 (again .end)) (second-is ops c p) (wr ops (p .second) (p .at-right) .1)
+                abbrev pb : Passified
+                pb = right-form (p .joint) (p .first) (p .second)
 
-              pub right-side-room : Writable v cs ts i (Some m) k s E T → Side-room v (r .normal) (out .normal) (r .raised) (out .raised) (r .next) (again .end) E3 T3
-              right-side-room w =
+                left-is : sizes-of v (left .measured) ≡ sizes pa
+                left-is = wl ops (p .first) (p .at-left) .0 ∙ measured-is (p .first) (Some (map-of v m)) k
+
+                second-is : passify (p .second) (names-of v start) (left .measured .next) ≡ pb
+                second-is =
+                    let from = enters j (p .tagged) v ∙ ap (λ (z : Sizes). entry j (map-of v m) (z .normal) (z .raised)) left-is in
+                    λ t. passify (p .second) (from t) (left-is t .next)
+
+                right-is : sizes-of v r ≡ sizes pb
+                right-is = mr ops (p .second) (p .at-right) ∙ (measured-is (p .second) (names-of v start) (left .measured .next) ∙ ap sizes second-is)
+
+                w1 : Wrote (form-piece (pa .code) (s .row) (s .term)) s E E1 T T1 (left .end)
+                w1 = wl ops (p .first) (p .at-left) .1
+
+                ln : names-of v (out .normal) ≡ leaves-normal j (names-of v (left .measured .normal))
+                ln = leaves-n j (p .tagged) v
+
+                lx : names-of v (out .raised) ≡ leaves-raised j (names-of v (left .measured .raised))
+                lx = leaves-x j (p .tagged) v
+
+              pub left-side-room : Writable v cs ts i (Some m) k s E T → Side-room v (out .normal) (r .normal) (out .raised) (r .raised) (r .next) (left .end) E1 T1
+              left-side-room w =
                   let ops = w .0 in
                   let c = w .1 in
                   let p = parts v ops cs ts i c (w .2) big in
                   let h = in-tables w in
                   record {
-                    names = right-names v (p .joint) (pa ops c p) (pb ops c p) (left .measured) r (left-is ops c p) (right-is ops c p) out (ln ops c p) (lx ops c p) (whole-fits ops c p (w .3));
+                    names = left-names v (p .joint) (pa ops c p) (pb ops c p) (left .measured) r (left-is ops c p) (right-is ops c p) out (ln ops c p) (lx ops c p) (whole-fits ops c p (w .3));
                     behind =
-                      right-behind v (p .joint) (pa ops c p) (pb ops c p) (left .measured) r (left-is ops c p) (right-is ops c p) out (ln ops c p) (lx ops c p) s E T E1 T1 (left .end)
-                      (w1 ops c p) (h .0) (h .1) E2 T2 p2 u2 E3 T3 (again .end) (u3 ops c p);
+                        left-behind v (p .joint) (pa ops c p) (pb ops c p) (left .measured) r (left-is ops c p) (right-is ops c p) out (ln ops c p) (lx ops c p) s E T E1 T1 (left .end)
+                        (w1 ops c p) (h .0) (h .1);
                     room =
-                      right-room v (p .joint) (pa ops c p) (pb ops c p) (left .measured) r (left-is ops c p) (right-is ops c p) out (ln ops c p) (lx ops c p) s E T E1 T1 (left .end)
-                      (w1 ops c p) (h .0) (h .1) E2 T2 p2 u2 E3 T3 (again .end) (u3 ops c p) (whole-room ops c p (w .4));
+                        left-room v (p .joint) (pa ops c p) (pb ops c p) (left .measured) r (left-is ops c p) (right-is ops c p) out (ln ops c p) (lx ops c p) s E T E1 T1 (left .end)
+                        (w1 ops c p) (h .0) (h .1) (whole-room ops c p (w .4));
                   }
 
-              module _ (E4 : List PassiveRow) (T4 : List PassiveTermRow) (p4 : Place)
-                (u4 : Wrote (side v (r .normal) (out .normal) (r .raised) (out .raised) (r .next) (again .end)) (again .end) E3 E4 T3 T4 p4)
+              module _ (E2 : List PassiveRow) (T2 : List PassiveTermRow) (p2 : Place)
+                  (u2 : Wrote (side v (out .normal) (r .normal) (out .raised) (r .raised) (r .next) (left .end)) (left .end) E1 E2 T1 T2 p2)
                 where
-                pub row-room : Writable v cs ts i (Some m) k s E T → (p4 .row < length E4) × (p4 .row + 1 < 2 ^ 32)
-                row-room w =
-                    let ops = w .0 in
-                    let c = w .1 in
-                    let p = parts v ops cs ts i c (w .2) big in
-                    let h = in-tables w in
-                    let q =
-                      last-room v (p .joint) (pa ops c p) (pb ops c p) (left .measured) r (left-is ops c p) (right-is ops c p) out (ln ops c p) (lx ops c p) s E T E1 T1 (left .end)
-                      (w1 ops c p) (h .0) (h .1) E2 T2 p2 u2 E3 T3 (again .end) (u3 ops c p) E4 T4 p4 u4 (whole-room ops c p (w .4)) in
-                    (omega (arith, q .rows-room), q .rows-few)
+                  pub right-writable : Writable v cs ts i (Some m) k s E T → Writable v cs ts (i - 1) start (left .measured .next) p2 E2 T2
+                  right-writable w =
+                      let ops = w .0 in
+                      let c = w .1 in
+                      let p = parts v ops cs ts i c (w .2) big in
+                      let h = in-tables w in (
+                        ops,
+                        p .second,
+                        p .at-right,
+                        subst Fits (sym (parts-right v cs ts i k m big (left .measured) left-measures start enters ops c p)) (fit-both v cs ts i k m big ops c p (w .3) .1),
+                        subst (λ (x : Passified). Room (form-piece (x .code) (p2 .row) (p2 .term)) p2 E2 T2) (sym (second-is ops c p))
+                            (second-room v (p .joint) (pa ops c p) (pb ops c p) (left .measured) r (left-is ops c p) (right-is ops c p) out (ln ops c p) (lx ops c p) s E T E1 T1 (left .end)
+                            (w1 ops c p) (h .0) (h .1) E2 T2 p2 u2 (whole-room ops c p (w .4))),
+                      )
 
-                pub joined-written :
-                    (E5 : List PassiveRow) (z : Measured) (p5 : Place) (row : PassiveRow) → Writable v cs ts i (Some m) k s E T
-                    → At-joint (at cs i .tag) (λ j. sizes-of v z ≡ joined-sizes j (sizes-of v (left .measured)) (sizes-of v r))
-                    → row ≡ joint-row (at cs i .tag) (p2 .row - 1) → Wrote (one-row row) p4 E4 E5 T4 T4 p5
-                    → Written v cs ts i (Some m) k s E E5 T T4 (record { measured = z; end = p5 })
-                joined-written E5 z p5 row w hz is u5 ops c e =
-                    let p = parts v ops cs ts i c e big in
-                    let h = in-tables w in
-                    ( joined-measures v cs ts i k m big (left .measured) left-measures start enters r mr z hz ops c e
-                    , subst (λ (x : Command). Wrote (command-piece v (Some m) k x s) s E E5 T T4 p5) (sym (p .is))
-                      (whole-written v (p .joint) (pa ops c p) (pb ops c p) (left .measured) r (left-is ops c p) (right-is ops c p) out (ln ops c p) (lx ops c p) s E T E1 T1 (left .end)
-                        (w1 ops c p) (h .0) (h .1) E2 T2 p2 u2 E3 T3 (again .end) (u3 ops c p) E4 T4 p4 u4 E5 p5 row (is ∙ ap (λ n. joint-row n (p2 .row - 1)) (p .tagged)) u5))
+                  pub middle-some : Writable v cs ts i (Some m) k s E T → 0 < p2 .row
+                  middle-some w =
+                      let ops = w .0 in
+                      let c = w .1 in
+                      let p = parts v ops cs ts i c (w .2) big in
+                      let h = in-tables w in
+                      middle-behind v (p .joint) (pa ops c p) (pb ops c p) (left .measured) r (left-is ops c p) (right-is ops c p) out (ln ops c p) (lx ops c p) s E T E1 T1 (left .end)
+                      (w1 ops c p) (h .0) (h .1) E2 T2 p2 u2
+
+                  module _ (again : Passed) (E3 : List PassiveRow) (T3 : List PassiveTermRow) (wr : Written v cs ts (i - 1) start (left .measured .next) p2 E2 E3 T2 T3 again) where
+                    u3 : (ops : ℕ) (c : Command) (p : Parts v ops cs ts i c) → Wrote (form-piece (pb ops c p .code) (p2 .row) (p2 .term)) p2 E2 E3 T2 T3 (again .end)
+                    u3 ops c p =
+                        subst (λ (x : Passified). Wrote (form-piece (x .code) (p2 .row) (p2 .term)) p2 E2 E3 T2 T3 (again .end)) (second-is ops c p) (wr ops (p .second) (p .at-right) .1)
+
+                    pub right-side-room : Writable v cs ts i (Some m) k s E T → Side-room v (r .normal) (out .normal) (r .raised) (out .raised) (r .next) (again .end) E3 T3
+                    right-side-room w =
+                        let ops = w .0 in
+                        let c = w .1 in
+                        let p = parts v ops cs ts i c (w .2) big in
+                        let h = in-tables w in
+                        record {
+                          names = right-names v (p .joint) (pa ops c p) (pb ops c p) (left .measured) r (left-is ops c p) (right-is ops c p) out (ln ops c p) (lx ops c p) (whole-fits ops c p (w .3));
+                          behind =
+                              right-behind v (p .joint) (pa ops c p) (pb ops c p) (left .measured) r (left-is ops c p) (right-is ops c p) out (ln ops c p) (lx ops c p) s E T E1 T1 (left .end)
+                              (w1 ops c p) (h .0) (h .1) E2 T2 p2 u2 E3 T3 (again .end) (u3 ops c p);
+                          room =
+                              right-room v (p .joint) (pa ops c p) (pb ops c p) (left .measured) r (left-is ops c p) (right-is ops c p) out (ln ops c p) (lx ops c p) s E T E1 T1 (left .end)
+                              (w1 ops c p) (h .0) (h .1) E2 T2 p2 u2 E3 T3 (again .end) (u3 ops c p) (whole-room ops c p (w .4));
+                        }
+
+                    module _ (E4 : List PassiveRow) (T4 : List PassiveTermRow) (p4 : Place)
+                        (u4 : Wrote (side v (r .normal) (out .normal) (r .raised) (out .raised) (r .next) (again .end)) (again .end) E3 E4 T3 T4 p4)
+                      where
+                        pub row-room : Writable v cs ts i (Some m) k s E T → (p4 .row < length E4) × (p4 .row + 1 < 2 ^ 32)
+                        row-room w =
+                            let ops = w .0 in
+                            let c = w .1 in
+                            let p = parts v ops cs ts i c (w .2) big in
+                            let h = in-tables w in
+                            let q =
+                            last-room v (p .joint) (pa ops c p) (pb ops c p) (left .measured) r (left-is ops c p) (right-is ops c p) out (ln ops c p) (lx ops c p) s E T E1 T1 (left .end)
+                            (w1 ops c p) (h .0) (h .1) E2 T2 p2 u2 E3 T3 (again .end) (u3 ops c p) E4 T4 p4 u4 (whole-room ops c p (w .4)) in
+                            (omega (arith, q .rows-room), q .rows-few)
+
+                        pub joined-written :
+                            (E5 : List PassiveRow) (z : Measured) (p5 : Place) (row : PassiveRow) → Writable v cs ts i (Some m) k s E T
+                            → At-joint (at cs i .tag) (λ j. sizes-of v z ≡ joined-sizes j (sizes-of v (left .measured)) (sizes-of v r))
+                            → row ≡ joint-row (at cs i .tag) (p2 .row - 1) → Wrote (one-row row) p4 E4 E5 T4 T4 p5
+                            → Written v cs ts i (Some m) k s E E5 T T4 (record { measured = z; end = p5 })
+                        joined-written E5 z p5 row w hz is u5 ops c e =
+                            let p = parts v ops cs ts i c e big in
+                            let h = in-tables w in (
+                              joined-measures v cs ts i k m big (left .measured) left-measures start enters r mr z hz ops c e,
+                              subst (λ (x : Command). Wrote (command-piece v (Some m) k x s) s E E5 T T4 p5) (sym (p .is))
+                                  (whole-written v (p .joint) (pa ops c p) (pb ops c p) (left .measured) r (left-is ops c p) (right-is ops c p) out (ln ops c p) (lx ops c p) s E T E1 T1 (left .end)
+                                  (w1 ops c p) (h .0) (h .1) E2 T2 p2 u2 E3 T3 (again .end) (u3 ops c p) E4 T4 p4 u4 E5 p5 row (is ∙ ap (λ n. joint-row n (p2 .row - 1)) (p .tagged)) u5),
+                            )

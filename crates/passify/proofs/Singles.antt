@@ -75,9 +75,9 @@ module _ (v : ℕ) (r : CommandRow) (m : NameMap) (k : ℕ) where
   assign-measured e n is within ts ops (assign x t) g f =
       let l = renamed-long v ops ts r t (f .2) (map-of v m) in
       let written : map-of v n ≡ set (map-of v m) (r .target) (name k) =
-            ap (Rattle.passify.specs.Names.firsts v) is ∙ firsts-set v (m .names) (r .target) (name k) within in
+      ap (Rattle.passify.specs.Names.firsts v) is ∙ firsts-set v (m .names) (r .target) (name k) within in
       let at : set (map-of v m) (r .target) (name k) ≡ set (map-of v m) (x .0) (name k) =
-            ap (λ (y : Variable). set (map-of v m) (y .0) (name k)) (sym (f .1)) in
+      ap (λ (y : Variable). set (map-of v m) (y .0) (name k)) (sym (f .1)) in
       λ i. record { normal = Some ((written ∙ at) i); raised = None; next = k + 1; rows = 1; terms = l i; nodes = l i + 2 }
   assign-measured e n is within ts ops skip g f = absurd (omega arith)
   assign-measured e n is within ts ops raise g f = absurd (omega arith)

@@ -141,11 +141,11 @@ sizes-joined j a b =
     let sn : length (n .left) ≡ length (n .right) = sides (leaves-normal j (a .normal)) (b .normal) (b .next) in
     let sx : length (x .left) ≡ length (x .right) = sides (leaves-raised j (a .raised)) (b .raised) (n .next) in
     let er : joined-sizes j (sizes a) (sizes b) .rows ≡ rows (joined j a b .code) =
-        omega (arith, l .rows-more, r .rows-more, sn, ap guard-rows sx) in
+    omega (arith, l .rows-more, r .rows-more, sn, ap guard-rows sx) in
     let et : joined-sizes j (sizes a) (sizes b) .terms ≡ length (terms (joined j a b .code)) =
-        omega (arith, l .terms-more, r .terms-more, both, sn, sx) in
+    omega (arith, l .terms-more, r .terms-more, both, sn, sx) in
     let en : joined-sizes j (sizes a) (sizes b) .nodes ≡ nodes (joined j a b .code) =
-        omega (arith, l .nodes-more, r .nodes-more, sn, ap guard-nodes sx) in
+    omega (arith, l .nodes-more, r .nodes-more, sn, ap guard-nodes sx) in
     λ i. record { normal = n .names; raised = x .names; next = x .next; rows = er i; terms = et i; nodes = en i }
 
 pub measured-is : (c : Command) (m : Names) (k : ℕ) → measured c m k ≡ sizes (passify c m k)

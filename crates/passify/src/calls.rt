@@ -5,6 +5,7 @@ ghost use Prim.Native.Nat.{ℕ};
 ghost use lib.Dec.{leb};
 ghost use lib.ListN.{length};
 ghost use Rattle.routine.specs.Decoding.{decode};
+ghost use Rattle.passive.specs.Stated.{Joints-as-stated};
 ghost use Rattle.passify.specs.Calls.{measure-answer, passify-answer, rows-after, terms-after, Agrees-with-runs};
 ghost use Rattle.passify.specs.Checked.{Checked, Form-measured};
 use crate::maps::first_names;
@@ -44,11 +45,21 @@ fn measure_checked(v: u32, commands: &[CommandRow]) -> Measured
     requires { ⌜ Checked v (now commands) ⌝ }
     ensures { λ r. ⌜ Form-measured v (now (commands .entry)) r ⌝ }
 {
-    measure_row(commands, commands.len() as u32 - 1, v, Some(first_names(v)), v)
+    measure_row(
+        commands,
+        commands.len() as u32 - 1,
+        v,
+        Some(first_names(v)),
+        v,
+    )
 }
 
 // What the passive form of a routine takes, and how many nodes its condition.
-pub fn measure<K: Kind>(v: u32, commands: &[CommandRow], terms: &[TermRow]) -> Result<FormMeasures, Refusal>
+pub fn measure<K: Kind>(
+    v: u32,
+    commands: &[CommandRow],
+    terms: &[TermRow],
+) -> Result<FormMeasures, Refusal>
     ensures { λ r. ⌜ r ≡ measure-answer v (decode v (kind .ops) (now (commands .entry)) (now (terms .entry))) ⌝ }
 {
     check::<K>(v, commands, terms)?;
@@ -68,10 +79,17 @@ fn tables_suffice(form: Measured, rows: usize, terms: usize) -> bool
 }
 
 // Writes the passive form of a routine at the front of the two tables.
-pub fn passify<K: Kind>(v: u32, commands: &[CommandRow], terms: &[TermRow], rows: &mut [PassiveRow], out: &mut [PassiveTermRow]) -> Result<FormLengths, Refusal>
+pub fn passify<K: Kind>(
+    v: u32,
+    commands: &[CommandRow],
+    terms: &[TermRow],
+    rows: &mut [PassiveRow],
+    out: &mut [PassiveTermRow],
+) -> Result<FormLengths, Refusal>
     ensures answer { λ r. ⌜ r ≡ passify-answer v (decode v (kind .ops) (now (commands .entry)) (now (terms .entry))) (length (now (rows .entry))) (length (now (out .entry))) ⌝ }
     ensures rows { λ r. ⌜ now (rows .exit) ≡ rows-after v (decode v (kind .ops) (now (commands .entry)) (now (terms .entry))) r (now (rows .entry)) ⌝ }
     ensures terms { λ r. ⌜ now (out .exit) ≡ terms-after v (decode v (kind .ops) (now (commands .entry)) (now (terms .entry))) r (now (out .entry)) ⌝ }
+    ensures rules { λ _. ⌜ Joints-as-stated ⌝ }
     ensures agreement { λ _. ⌜ Agrees-with-runs kind v (decode v (kind .ops) (now (commands .entry)) (now (terms .entry))) ⌝ }
 {
     check::<K>(v, commands, terms)?;
@@ -82,11 +100,18 @@ pub fn passify<K: Kind>(v: u32, commands: &[CommandRow], terms: &[TermRow], rows
     if !tables_suffice(form, rows.len(), out.len()) {
         return Err(Refusal::WorkTable);
     }
-    let front = Place {
-        row: 0,
-        term: 0,
-    };
-    let _ = passify_row(commands, terms, commands.len() as u32 - 1, v, Some(first_names(v)), v, rows, out, front);
+    let front = Place { row: 0, term: 0 };
+    let _ = passify_row(
+        commands,
+        terms,
+        commands.len() as u32 - 1,
+        v,
+        Some(first_names(v)),
+        v,
+        rows,
+        out,
+        front,
+    );
     Ok(FormLengths {
         names: form.next,
         rows: form.rows,

@@ -64,7 +64,14 @@ fn rename_term(rows: &[TermRow], v: u32, m: &NameMap, out: &mut [PassiveTermRow]
 }
 
 // The term of a single command, from `at` on, if it has one; answers the place behind it.
-fn write_term(row: CommandRow, terms: &[TermRow], v: u32, m: &NameMap, out: &mut [PassiveTermRow], at: u32) -> u32
+fn write_term(
+    row: CommandRow,
+    terms: &[TermRow],
+    v: u32,
+    m: &NameMap,
+    out: &mut [PassiveTermRow],
+    at: u32,
+) -> u32
     requires few { ⌜ v ≤ 32 ⌝ }
     requires room { ⌜ Some-single v (now terms) row (λ c. Term-room (length (passive-terms c (map-of v (now m)))) at (length (now out))) ⌝ }
     ensures { λ r. ⌜ At-single v (now (terms .entry)) row (λ c. Term-written (passive-terms c (map-of v (now (m .entry)))) at (now (out .entry)) (now (out .exit)) r) ⌝ }
@@ -93,7 +100,16 @@ fn single_row(row: CommandRow, next: u32, from: u32) -> PassiveRow
 }
 
 // The passive form of a single command.
-fn passify_single(row: CommandRow, terms: &[TermRow], v: u32, m: &NameMap, next: u32, rows: &mut [PassiveRow], out: &mut [PassiveTermRow], at: Place) -> Place
+fn passify_single(
+    row: CommandRow,
+    terms: &[TermRow],
+    v: u32,
+    m: &NameMap,
+    next: u32,
+    rows: &mut [PassiveRow],
+    out: &mut [PassiveTermRow],
+    at: Place,
+) -> Place
     requires few { ⌜ v ≤ 32 ⌝ }
     requires writable { ⌜ Some-single v (now terms) row (Single-writable v (now m) next at (now rows) (now out)) ⌝ }
     ensures { λ r. ⌜ At-single v (now (terms .entry)) row (λ c. Wrote (single-piece v (now (m .entry)) next c at) at (now (rows .entry)) (now (rows .exit)) (now (out .entry)) (now (out .exit)) r) ⌝ }
@@ -115,7 +131,17 @@ pub struct Passed {
 
 // The passive form of the command that ends at row `i`. The renaming behind the left part needs the maps of the right part, so that is
 // measured before it is written.
-pub fn passify_row(commands: &[CommandRow], terms: &[TermRow], i: u32, v: u32, names: Option<NameMap>, next: u32, rows: &mut [PassiveRow], out: &mut [PassiveTermRow], at: Place) -> Passed
+pub fn passify_row(
+    commands: &[CommandRow],
+    terms: &[TermRow],
+    i: u32,
+    v: u32,
+    names: Option<NameMap>,
+    next: u32,
+    rows: &mut [PassiveRow],
+    out: &mut [PassiveTermRow],
+    at: Place,
+) -> Passed
     requires few { ⌜ v ≤ 32 ⌝ }
     requires writable { ⌜ Writable v (now commands) (now terms) i names next at (now rows) (now out) ⌝ }
     ensures { λ r. ⌜ Written v (now (commands .entry)) (now (terms .entry)) i names next at (now (rows .entry)) (now (rows .exit)) (now (out .entry)) (now (out .exit)) r ⌝ }
@@ -137,9 +163,39 @@ pub fn passify_row(commands: &[CommandRow], terms: &[TermRow], i: u32, v: u32, n
     let start = entry(row.tag, m, left.measured);
     let right = measure_row(commands, i - 1, v, start, left.measured.next);
     let exits = left_exits(row.tag, left.measured);
-    let middle = write_side(v, exits.normal, right.normal, exits.raised, right.raised, right.next, rows, out, left.end);
-    let again = passify_row(commands, terms, i - 1, v, start, left.measured.next, rows, out, middle);
-    let behind = write_side(v, right.normal, exits.normal, right.raised, exits.raised, right.next, rows, out, again.end);
+    let middle = write_side(
+        v,
+        exits.normal,
+        right.normal,
+        exits.raised,
+        right.raised,
+        right.next,
+        rows,
+        out,
+        left.end,
+    );
+    let again = passify_row(
+        commands,
+        terms,
+        i - 1,
+        v,
+        start,
+        left.measured.next,
+        rows,
+        out,
+        middle,
+    );
+    let behind = write_side(
+        v,
+        right.normal,
+        exits.normal,
+        right.raised,
+        exits.raised,
+        right.next,
+        rows,
+        out,
+        again.end,
+    );
     Passed {
         measured: measure_joined(row.tag, v, left.measured, right),
         end: write_row(rows, behind, joint_row(row.tag, middle.row - 1)),

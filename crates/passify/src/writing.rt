@@ -60,7 +60,13 @@ pub fn write_row(rows: &mut [PassiveRow], at: Place, row: PassiveRow) -> Place
 }
 
 // One let: the new name takes the value of the old one.
-fn write_let(rows: &mut [PassiveRow], terms: &mut [PassiveTermRow], at: Place, new: Name, old: Name) -> Place
+fn write_let(
+    rows: &mut [PassiveRow],
+    terms: &mut [PassiveTermRow],
+    at: Place,
+    new: Name,
+    old: Name,
+) -> Place
     requires { ⌜ Room (let-piece (record { new = new; old = old }) (at .term)) at (now rows) (now terms) ⌝ }
     ensures { λ r. ⌜ Wrote (let-piece (record { new = new; old = old }) (at .term)) at (now (rows .entry)) (now (rows .exit)) (now (terms .entry)) (now (terms .exit)) r ⌝ }
 {
@@ -76,7 +82,14 @@ fn write_let(rows: &mut [PassiveRow], terms: &mut [PassiveTermRow], at: Place, n
 }
 
 // One more let, where the first of them stands at `start`: behind others it is joined to them by a sequence.
-fn write_next_let(rows: &mut [PassiveRow], terms: &mut [PassiveTermRow], start: Place, at: Place, new: Name, old: Name) -> Place
+fn write_next_let(
+    rows: &mut [PassiveRow],
+    terms: &mut [PassiveTermRow],
+    start: Place,
+    at: Place,
+    new: Name,
+    old: Name,
+) -> Place
     requires behind { ⌜ start .row ≤ at .row ⌝ }
     requires room { ⌜ Room (next-let start (record { new = new; old = old }) at) at (now rows) (now terms) ⌝ }
     ensures { λ r. ⌜ Wrote (next-let start (record { new = new; old = old }) at) at (now (rows .entry)) (now (rows .exit)) (now (terms .entry)) (now (terms .exit)) r ⌝ }
@@ -97,7 +110,15 @@ pub struct Renamed {
 }
 
 // A let for each variable that the two maps name apart: its new name takes the value of its name in `a`.
-fn write_lets(v: u32, a: &NameMap, b: &NameMap, next: u32, rows: &mut [PassiveRow], terms: &mut [PassiveTermRow], start: Place) -> Renamed
+fn write_lets(
+    v: u32,
+    a: &NameMap,
+    b: &NameMap,
+    next: u32,
+    rows: &mut [PassiveRow],
+    terms: &mut [PassiveTermRow],
+    start: Place,
+) -> Renamed
     requires few { ⌜ v ≤ 32 ⌝ }
     requires names { ⌜ next-after v (Some (now a)) (Some (now b)) next ≤ 2 ^ 16 ⌝ }
     requires room { ⌜ Room (lets-piece (renamings v (Some (now a)) (Some (now b)) next) (start .row) (start .term)) start (now rows) (now terms) ⌝ }
@@ -116,7 +137,15 @@ fn write_lets(v: u32, a: &NameMap, b: &NameMap, next: u32, rows: &mut [PassiveRo
 }
 
 // The same of maps that may be absent: then there is nothing to rename.
-fn write_renaming(v: u32, a: Option<NameMap>, b: Option<NameMap>, next: u32, rows: &mut [PassiveRow], terms: &mut [PassiveTermRow], at: Place) -> Renamed
+fn write_renaming(
+    v: u32,
+    a: Option<NameMap>,
+    b: Option<NameMap>,
+    next: u32,
+    rows: &mut [PassiveRow],
+    terms: &mut [PassiveTermRow],
+    at: Place,
+) -> Renamed
     requires few { ⌜ v ≤ 32 ⌝ }
     requires names { ⌜ next-after v a b next ≤ 2 ^ 16 ⌝ }
     requires room { ⌜ Room (lets-piece (renamings v a b next) (at .row) (at .term)) at (now rows) (now terms) ⌝ }
@@ -131,7 +160,15 @@ fn write_renaming(v: u32, a: Option<NameMap>, b: Option<NameMap>, next: u32, row
 }
 
 // The renaming of a part where it ends normally, behind the part.
-fn write_tail(v: u32, a: Option<NameMap>, b: Option<NameMap>, next: u32, rows: &mut [PassiveRow], terms: &mut [PassiveTermRow], at: Place) -> Renamed
+fn write_tail(
+    v: u32,
+    a: Option<NameMap>,
+    b: Option<NameMap>,
+    next: u32,
+    rows: &mut [PassiveRow],
+    terms: &mut [PassiveTermRow],
+    at: Place,
+) -> Renamed
     requires few { ⌜ v ≤ 32 ⌝ }
     requires names { ⌜ next-after v a b next ≤ 2 ^ 16 ⌝ }
     requires behind { ⌜ 0 < at .row ⌝ }
@@ -150,7 +187,15 @@ fn write_tail(v: u32, a: Option<NameMap>, b: Option<NameMap>, next: u32, rows: &
 }
 
 // The renaming of a part where it ends raised, behind the part.
-fn write_guard(v: u32, a: Option<NameMap>, b: Option<NameMap>, next: u32, rows: &mut [PassiveRow], terms: &mut [PassiveTermRow], at: Place) -> Renamed
+fn write_guard(
+    v: u32,
+    a: Option<NameMap>,
+    b: Option<NameMap>,
+    next: u32,
+    rows: &mut [PassiveRow],
+    terms: &mut [PassiveTermRow],
+    at: Place,
+) -> Renamed
     requires few { ⌜ v ≤ 32 ⌝ }
     requires names { ⌜ next-after v a b next ≤ 2 ^ 16 ⌝ }
     requires behind { ⌜ 0 < at .row ⌝ }
@@ -171,7 +216,17 @@ fn write_guard(v: u32, a: Option<NameMap>, b: Option<NameMap>, next: u32, rows: 
 }
 
 // Both renamings of a part: `na` and `xa` are the maps that it ends with, `nb` and `xb` those of the other part.
-pub fn write_side(v: u32, na: Option<NameMap>, nb: Option<NameMap>, xa: Option<NameMap>, xb: Option<NameMap>, next: u32, rows: &mut [PassiveRow], terms: &mut [PassiveTermRow], at: Place) -> Place
+pub fn write_side(
+    v: u32,
+    na: Option<NameMap>,
+    nb: Option<NameMap>,
+    xa: Option<NameMap>,
+    xb: Option<NameMap>,
+    next: u32,
+    rows: &mut [PassiveRow],
+    terms: &mut [PassiveTermRow],
+    at: Place,
+) -> Place
     requires few { ⌜ v ≤ 32 ⌝ }
     requires names { ⌜ next-after v xa xb (next-after v na nb next) ≤ 2 ^ 16 ⌝ }
     requires behind { ⌜ 0 < at .row ⌝ }

@@ -7,3 +7,4 @@ pub mod Settling
 pub mod Complete
 pub mod Agreeing
 pub mod Bounding
+pub mod Rules

@@ -3,3 +3,4 @@ pub mod Outcomes
 pub mod Uses
 pub mod Agreement
 pub mod Layout
+pub mod Stated

@@ -5,8 +5,8 @@ use Prim.Native.Nat.{ℕ}
 use lib.Chars.{codes}
 use lib.Dec.{eqb}
 
-abbrev pub sign : ℕ → List ℕ
-sign k =
+abbrev pub operator-sign : ℕ → List ℕ
+operator-sign k =
     cond (eqb k 0) (codes "+")
     (cond (eqb k 1) (codes "-")
     (cond (eqb k 2) (codes "*")

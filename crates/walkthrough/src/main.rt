@@ -5,9 +5,16 @@ ghost use Rattle.routine.specs.Decoding.{decode, verdict};
 mod samples;
 mod text;
 
+use kinds::numbered::Name;
+use kinds::numbered::Node;
 use kinds::numbers::Number;
 use kinds::numbers::NumberKind;
 use kinds::refusals::Refusal;
+use passify::calls::FormMeasures;
+use passify::calls::measure;
+use passify::calls::passify;
+use passive::rows::PassiveRow;
+use passive::rows::PassiveTermRow;
 use routine::checks::check;
 use routine::rows::CommandRow;
 use routine::rows::TermRow;
@@ -15,7 +22,7 @@ use samples::Sample;
 use samples::make_sample;
 use std::error::AnyError;
 
-// Prints what the check says of the rows, and whether it is what was expected.
+// Prints what the check says.
 fn report(rt: &LibcRuntime, what: &str, answer: Result<(), Refusal>) -> Result<(), AnyError> {
     match answer {
         Ok(()) => println!(rt, "{what}: accepted")?,
@@ -68,25 +75,79 @@ fn show_damaged(rt: &LibcRuntime) -> Result<(), AnyError> {
     )
 }
 
-fn run(rt: &LibcRuntime) -> Result<(), AnyError> {
-    let Sample { commands, terms } = make_sample();
+const BLANK_ROW: PassiveRow = PassiveRow {
+    tag: 0,
+    f: Name(0),
+    from: 0,
+    count: 0,
+    left: 0,
+    n: Node(0),
+    x: Node(0),
+    w: Node(0),
+};
+
+const BLANK_TERM: PassiveTermRow = PassiveTermRow { tag: 0, number: 0 };
+
+// The passive form, in tables of exactly the length that was measured.
+fn show_passive_form(
+    rt: &LibcRuntime,
+    commands: &[CommandRow],
+    terms: &[TermRow],
+) -> Result<(), AnyError> {
+    let Ok(form) = measure::<Number>(2, commands, terms) else {
+        return Err("the routine was refused".into());
+    };
+    let FormMeasures {
+        names,
+        rows,
+        terms: places,
+        nodes,
+    } = form;
+    println!(
+        rt,
+        "It takes {names} names, {rows} rows, {places} term rows; its condition will take {nodes} nodes."
+    )?;
+    let mut passive_rows = vec![in rt.alloc(); BLANK_ROW; rows as usize]?;
+    let mut passive_terms = vec![in rt.alloc(); BLANK_TERM; places as usize]?;
+    match passify::<Number>(
+        2,
+        commands,
+        terms,
+        passive_rows.as_mut_slice(),
+        passive_terms.as_mut_slice(),
+    ) {
+        Ok(_) => text::print_passive_form(rt, passive_rows.as_slice(), passive_terms.as_slice()),
+        Err(_) => Err("the routine was refused".into()),
+    }
+}
+
+fn show_routine(
+    rt: &LibcRuntime,
+    commands: &[CommandRow],
+    terms: &[TermRow],
+) -> Result<(), AnyError> {
     let rows = commands.len();
     println!(
         rt,
         "The routine: {rows} command rows over v0, a number, and v1, a counter."
     )?;
-    println!(rt, "")?;
-    text::print_routine(rt, &commands, &terms)?;
-    println!(rt, "")?;
-    println!(rt, "The check:")?;
-    report(rt, "the routine", check_numbers(2, &commands, &terms))?;
-    println!(rt, "")?;
-    println!(rt, "Damaged copies:")?;
+    text::print_routine(rt, commands, terms)?;
+    report(rt, "The check", check_numbers(2, commands, terms))
+}
+
+fn run(rt: &LibcRuntime) -> Result<(), AnyError> {
+    let Sample { commands, terms } = make_sample();
+    show_routine(rt, &commands, &terms)?;
+    println!(rt, "\nDamaged copies of it:")?;
     show_damaged(rt)?;
-    println!(rt, "")?;
     println!(
         rt,
-        "Done: one routine checked and shown, six damaged copies refused."
+        "\nIts passive form, with a name n0, n1, .. for each value that a variable takes:"
+    )?;
+    show_passive_form(rt, &commands, &terms)?;
+    println!(
+        rt,
+        "\nDone: one routine checked and shown, six damaged copies refused, one passive form measured and written."
     )?;
     Ok(())
 }

@@ -1,6 +1,11 @@
-// How a routine is shown.
+// How a routine and its passive form are shown.
 ghost use mathlib.Core.Path.{_≡_};
-ghost use Rattle.walkthrough.specs.Shown.{sign};
+ghost use mathlib.Core.List.{List};
+ghost use Prim.Native.Nat.{ℕ};
+ghost use lib.Chars.{codes};
+ghost use Rattle.walkthrough.specs.Shown.{operator-sign};
+use passive::rows::PassiveRow;
+use passive::rows::PassiveTermRow;
 use routine::rows::CommandRow;
 use routine::rows::TermRow;
 use std::alloc::AllocError;
@@ -8,7 +13,7 @@ use std::alloc::Global;
 use std::error::AnyError;
 
 fn operator(operation: u16) -> &'static str
-    ensures { λ r. ⌜ now r ≡ sign operation ⌝ }
+    ensures { λ r. ⌜ now r ≡ operator-sign operation ⌝ }
 {
     match operation {
         0 => "+",
@@ -20,14 +25,76 @@ fn operator(operation: u16) -> &'static str
     }
 }
 
+// A row of a term, of a routine or of a passive form.
+pub trait TermItem: Copy {
+    // What stands before the number of what it refers to.
+    ghost letter: { List ℕ };
+
+    fn sign() -> &'static str
+        ensures { λ r. ⌜ now r ≡ letter ⌝ };
+
+    ghost tag: { Self → ℕ };
+
+    fn tag(self) -> u32
+        ensures { λ r. ⌜ r ≡ tag self ⌝ };
+
+    ghost number: { Self → ℕ };
+
+    fn number(self) -> u16
+        ensures { λ r. ⌜ r ≡ number self ⌝ };
+}
+
+pub impl TermItem for TermRow as VariableItem {
+    ghost letter = { codes "v" };
+
+    fn sign() -> &'static str {
+        "v"
+    }
+
+    ghost tag = { λ r. r .tag };
+
+    fn tag(self) -> u32 {
+        self.tag
+    }
+
+    ghost number = { λ r. r .number };
+
+    fn number(self) -> u16 {
+        self.number
+    }
+}
+
+pub impl TermItem for PassiveTermRow as NameItem {
+    ghost letter = { codes "n" };
+
+    fn sign() -> &'static str {
+        "n"
+    }
+
+    ghost tag = { λ r. r .tag };
+
+    fn tag(self) -> u32 {
+        self.tag
+    }
+
+    ghost number = { λ r. r .number };
+
+    fn number(self) -> u16 {
+        self.number
+    }
+}
+
 // A postfix term written with its operators between their operands.
-fn term_text(heap: Global, rows: &[TermRow]) -> Result<String, AllocError> {
+fn term_text<R: TermItem>(heap: Global, rows: &[R]) -> Result<String, AllocError> {
     let mut waiting: Vec<String> = Vec::new(heap);
     for row in rows {
-        let number = row.number;
-        let text = match row.tag {
+        let number = row.number();
+        let text = match row.tag() {
             1 => format!(heap, "{number}")?,
-            2 => format!(heap, "v{number}")?,
+            2 => {
+                let letter = R::sign();
+                format!(heap, "{letter}{number}")?
+            }
             _ => {
                 let sign = operator(number);
                 match (waiting.pop(), waiting.pop()) {
@@ -56,10 +123,15 @@ fn print_line(rt: &LibcRuntime, depth: usize, line: &str) -> Result<(), AnyError
     Ok(())
 }
 
-// The term of a row, or nothing where it lies outside the table.
-fn term_of(heap: Global, terms: &[TermRow], row: CommandRow) -> Result<String, AllocError> {
-    let first = row.from as usize;
-    let end = first + row.count as usize;
+// The term of `count` rows from `from` on, or nothing where it lies outside the table.
+fn term_of<R: TermItem>(
+    heap: Global,
+    terms: &[R],
+    from: u32,
+    count: u32,
+) -> Result<String, AllocError> {
+    let first = from as usize;
+    let end = first + count as usize;
     if end <= terms.len() {
         term_text(heap, &terms[first..end])
     } else {
@@ -74,7 +146,7 @@ fn print_single(
     depth: usize,
 ) -> Result<(), AnyError> {
     let heap = rt.alloc();
-    let term = term_of(heap, terms, row)?;
+    let term = term_of(heap, terms, row.from, row.count)?;
     let target = row.target;
     let line = match row.tag {
         1 => format!(heap, "assert {term}")?,
@@ -122,4 +194,42 @@ pub fn print_routine(
         0 => Ok(()),
         n => print_command(rt, commands, terms, n - 1, 1),
     }
+}
+
+// Prints a row of a passive form, with its number.
+fn print_passive_row(
+    rt: &LibcRuntime,
+    terms: &[PassiveTermRow],
+    at: usize,
+    row: PassiveRow,
+) -> Result<(), AnyError> {
+    let heap = rt.alloc();
+    let term = term_of(heap, terms, row.from, row.count)?;
+    let name = row.f.0;
+    let left = row.left;
+    let right = at.saturating_sub(1);
+    let line = match row.tag {
+        1 => format!(heap, "assert {term}")?,
+        2 => format!(heap, "assume {term}")?,
+        4 => format!(heap, "skip")?,
+        5 => format!(heap, "raise")?,
+        6 => format!(heap, "sequence of {left} and {right}")?,
+        7 => format!(heap, "choice of {left} and {right}")?,
+        8 => format!(heap, "catch by {right} of what {left} raises")?,
+        9 => format!(heap, "let n{name} = {term}")?,
+        _ => format!(heap, "stop")?,
+    };
+    println!(rt, "{at:>4}  {line}")?;
+    Ok(())
+}
+
+pub fn print_passive_form(
+    rt: &LibcRuntime,
+    rows: &[PassiveRow],
+    terms: &[PassiveTermRow],
+) -> Result<(), AnyError> {
+    for (at, row) in rows.iter().enumerate() {
+        print_passive_row(rt, terms, at, *row)?;
+    }
+    Ok(())
 }

@@ -30,10 +30,11 @@ pub loop-i-again : need.loop-i-again
 unfolding After
 loop-i-again c =
     elim (c .if-a-i .came) [
-      then-a-i w ↦ subst₃ (After c) (sym (w .both-is)) (sym (w .k-is)) (sym (w .renamed-is))
-        (apart _ _ _ _ _ _ _ _ (c .loop-i-test .taken) (c .loop-i .inv) (w .if-a-i .taken) (omega arith))
-    | else-a-i w ↦ subst₃ (After c) (sym (w .both-is)) (sym (w .k-is)) (sym (w .renamed-is))
-        (same _ _ _ _ _ _ _ _ (c .loop-i-test .taken) (c .loop-i .inv) (w .if-a-i .left)) ]
+      | then-a-i w ↦ subst₃ (After c) (sym (w .both-is)) (sym (w .k-is)) (sym (w .renamed-is))
+          (apart _ _ _ _ _ _ _ _ (c .loop-i-test .taken) (c .loop-i .inv) (w .if-a-i .taken) (omega arith))
+      | else-a-i w ↦ subst₃ (After c) (sym (w .both-is)) (sym (w .k-is)) (sym (w .renamed-is))
+          (same _ _ _ _ _ _ _ _ (c .loop-i-test .taken) (c .loop-i .inv) (w .if-a-i .left))
+    ]
 
 pub returns : need.returns
 returns c =

@@ -10,8 +10,8 @@ merge-n-requires c κs =
     record {
       few = c .pre .few;
       room =
-        n-room (c .args .v) (c .args .left) (c .args .right) (c .left-exits-out .result) j (c .left-exits-out .ensures .normal j e (c .args .v))
-        (c .left-exits-out .ensures .raised j e (c .args .v)) (c .pre .fits .2);
+          n-room (c .args .v) (c .args .left) (c .args .right) (c .left-exits-out .result) j (c .left-exits-out .ensures .normal j e (c .args .v))
+          (c .left-exits-out .ensures .raised j e (c .args .v)) (c .pre .fits .2);
     }
 
 pub merge-x-requires : need.merge-x-requires
@@ -21,6 +21,6 @@ merge-x-requires c κs =
     record {
       few = c .pre .few;
       room =
-        x-room (c .args .v) (c .args .left) (c .args .right) (c .left-exits-out .result) j (c .left-exits-out .ensures .normal j e (c .args .v))
-        (c .left-exits-out .ensures .raised j e (c .args .v)) (c .merge-n .result) (c .merge-n .ensures) (c .pre .fits .2);
+          x-room (c .args .v) (c .args .left) (c .args .right) (c .left-exits-out .result) j (c .left-exits-out .ensures .normal j e (c .args .v))
+          (c .left-exits-out .ensures .raised j e (c .args .v)) (c .merge-n .result) (c .merge-n .ensures) (c .pre .fits .2);
     }

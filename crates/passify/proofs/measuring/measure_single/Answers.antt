@@ -23,4 +23,4 @@ pub returns-in-3 : need.returns-in-3
 returns-in-3 c =
     subst (Measured-as (c .args .v) (c .args .row) (c .args .m) (c .args .next)) (sym (c .measure-normal-in-3 .ensures))
     (assign-measured (c .args .v) (c .args .row) (c .args .m) (c .args .next) (c .in-3 .is) _ refl
-      (omega (arith, c .pre .few, assign-room (c .args .v) (c .args .row) (c .args .m) (c .args .next) (c .in-3 .is) (c .pre .measurable) .target)))
+    (omega (arith, c .pre .few, assign-room (c .args .v) (c .args .row) (c .args .m) (c .args .next) (c .in-3 .is) (c .pre .measurable) .target)))

@@ -36,10 +36,10 @@ write-row-requires c κs =
 pub returns : need.returns
 returns c = record {
   wrote =
-    some-guard _ _ _ _ _ _ _ (c .write-renaming-lets .ensures .wrote) (c .if-lets-at .left) _ _ _ _ _ _
-    (wrote-as (ap one-row (c .joint-row .ensures)) (c .write-row-raise .ensures _))
-    (wrote-as (ap one-row (c .joint-row-2 .ensures)) (c .write-row-sequence .ensures _))
-    (wrote-as (ap one-row (c .joint-row-3 .ensures)) (c .write-row .ensures _))
-    (omega (arith, c .pre .room .rows-room)) (omega (arith, c .pre .room .terms-room));
+      some-guard _ _ _ _ _ _ _ (c .write-renaming-lets .ensures .wrote) (c .if-lets-at .left) _ _ _ _ _ _
+      (wrote-as (ap one-row (c .joint-row .ensures)) (c .write-row-raise .ensures _))
+      (wrote-as (ap one-row (c .joint-row-2 .ensures)) (c .write-row-sequence .ensures _))
+      (wrote-as (ap one-row (c .joint-row-3 .ensures)) (c .write-row .ensures _))
+      (omega (arith, c .pre .room .rows-room)) (omega (arith, c .pre .room .terms-room));
   next = c .write-renaming-lets .ensures .next;
 }

@@ -28,11 +28,12 @@ add-k c = omega (arith, below (need.at·add-k c .Then-a-i), c .pre .names)
 pub loop-i-again : need.loop-i-again
 loop-i-again c =
     elim (c .if-a-i .came) [
-      then-a-i w ↦ moved _ _ _ _ _ _ _ _ _ _ _ _ _ _ _ _ (w .k-is) (w .at-is) (w .rows-is) (w .terms-is)
-        (apart _ _ _ _ _ _ _ _ _ _ _ _ (c .loop-i-test .taken) (c .loop-i .inv) (w .if-a-i .taken) (w .write-next-let-at .result) _ _
+      | then-a-i w ↦ moved _ _ _ _ _ _ _ _ _ _ _ _ _ _ _ _ (w .k-is) (w .at-is) (w .rows-is) (w .terms-is)
+          (apart _ _ _ _ _ _ _ _ _ _ _ _ (c .loop-i-test .taken) (c .loop-i .inv) (w .if-a-i .taken) (w .write-next-let-at .result) _ _
           (omega arith) (omega arith) (w .write-next-let-at .ensures))
-    | else-a-i w ↦ moved _ _ _ _ _ _ _ _ _ _ _ _ _ _ _ _ (w .k-is) (w .at-is) (w .rows-is) (w .terms-is)
-        (same _ _ _ _ _ _ _ _ _ _ _ _ (c .loop-i-test .taken) (c .loop-i .inv) (w .if-a-i .left)) ]
+      | else-a-i w ↦ moved _ _ _ _ _ _ _ _ _ _ _ _ _ _ _ _ (w .k-is) (w .at-is) (w .rows-is) (w .terms-is)
+          (same _ _ _ _ _ _ _ _ _ _ _ _ (c .loop-i-test .taken) (c .loop-i .inv) (w .if-a-i .left))
+    ]
 
 pub returns : need.returns
 returns c = record {

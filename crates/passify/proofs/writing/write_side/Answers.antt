@@ -20,7 +20,7 @@ write-tail-tail-requires c κs =
       names = omega (arith, c .pre .names, merge-up (names-of (c .args .v) (c .args .xa)) (names-of (c .args .v) (c .args .xb)) k);
       behind = c .pre .behind;
       room =
-        room-first (tail-piece n (c .args .at .row) (c .args .at .term)) (guard-piece x (c .args .at .row + 2 * length n) (c .args .at .term + length n)) (c .pre .room);
+          room-first (tail-piece n (c .args .at .row) (c .args .at .term)) (guard-piece x (c .args .at .row + 2 * length n) (c .args .at .term + length n)) (c .pre .room);
     }
 
 pub write-guard-requires : need.write-guard-requires
@@ -29,8 +29,8 @@ write-guard-requires c κs = record {
   names = omega (arith, c .pre .names, ap (next-after (c .args .v) (c .args .xa) (c .args .xb)) (c .write-tail-tail .ensures .next));
   behind = omega (arith, c .pre .behind, c .write-tail-tail .ensures .wrote .row-end);
   room =
-    guard-room (c .args .v) (c .args .na) (c .args .nb) (c .args .xa) (c .args .xb) (c .args .next) _ _ _ _ _ _ _ (c .write-tail-tail .ensures .wrote)
-    (c .write-tail-tail .ensures .next) (c .pre .room);
+      guard-room (c .args .v) (c .args .na) (c .args .nb) (c .args .xa) (c .args .xb) (c .args .next) _ _ _ _ _ _ _ (c .write-tail-tail .ensures .wrote)
+      (c .write-tail-tail .ensures .next) (c .pre .room);
 }
 
 pub returns : need.returns

@@ -23,7 +23,7 @@ write-row-requires c κs =
 pub returns : need.returns
 returns c = record {
   wrote =
-    some-tail _ _ _ _ _ _ _ (c .write-renaming-lets .ensures .wrote) (c .if-lets-at .left) _ _
-    (wrote-as (ap one-row (c .joint-row .ensures)) (c .write-row .ensures _)) (omega (arith, c .pre .room .rows-room)) (omega (arith, c .pre .room .terms-room));
+      some-tail _ _ _ _ _ _ _ (c .write-renaming-lets .ensures .wrote) (c .if-lets-at .left) _ _
+      (wrote-as (ap one-row (c .joint-row .ensures)) (c .write-row .ensures _)) (omega (arith, c .pre .room .rows-room)) (omega (arith, c .pre .room .terms-room));
   next = c .write-renaming-lets .ensures .next;
 }
