@@ -3,3 +3,5 @@
 mod forms;
 #[cfg(test)]
 mod routines;
+#[cfg(test)]
+mod stores;

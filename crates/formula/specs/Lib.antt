@@ -1,0 +1,3 @@
+pub mod Store
+pub mod Tables
+pub mod Evaluators
