@@ -111,7 +111,7 @@ fn joint_nodes(tag: u32) -> u32
 }
 
 // The rows that guard `renamed` renamings, and their nodes.
-pub fn guard_row_count(renamed: u32) -> u32
+fn guard_row_count(renamed: u32) -> u32
     requires { ⌜ renamed ≤ 32 ⌝ }
     ensures { λ r. ⌜ r ≡ guard-rows renamed ⌝ }
 {
