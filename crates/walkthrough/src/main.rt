@@ -2,7 +2,7 @@
 ghost use mathlib.Core.Path.{_≡_};
 ghost use Rattle.routine.specs.Decoding.{decode, verdict};
 
-mod samples;
+
 mod text;
 
 use kinds::numbered::Name;

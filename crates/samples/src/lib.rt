@@ -2,7 +2,7 @@
 ghost use mathlib.Core.Path.{_≡_};
 ghost use Rattle.std.specs.declared.result.Result.the-variants.{Ok};
 ghost use Rattle.routine.specs.Decoding.{decode};
-ghost use Rattle.walkthrough.specs.Sample.{sample-routine};
+ghost use Rattle.samples.specs.Sample.{sample-routine};
 use routine::rows::CommandRow;
 use routine::rows::TermRow;
 
