@@ -2,7 +2,6 @@
 ghost use mathlib.Core.Path.{_≡_};
 ghost use Rattle.routine.specs.Decoding.{decode, verdict};
 
-
 mod text;
 
 use kinds::numbered::Name;

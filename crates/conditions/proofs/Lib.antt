@@ -1,0 +1,11 @@
+pub mod Waits
+pub mod Frames
+pub mod TermLaws
+pub mod ItemTurns
+pub mod TermTurns
+pub mod RowLaws
+pub mod RowAsks
+pub mod RowTurns
+pub mod Standings
+pub mod FormLaws
+pub mod Forecasts

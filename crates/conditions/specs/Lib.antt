@@ -1,0 +1,5 @@
+pub mod Reading
+pub mod Made
+pub mod Valued
+pub mod Asks
+pub mod Calls

@@ -1,0 +1,3 @@
+// The register of conditions.
+pub mod entries;
+pub mod registers;
