@@ -1,6 +1,6 @@
 // Passive forms against tables worked out by hand, and measure and passify at their limits.
-use crate::routines::item;
-use crate::routines::row;
+use crate::shapes::item;
+use crate::shapes::row;
 use kinds::numbered::Name;
 use kinds::numbered::Node;
 use kinds::numbers::Number;

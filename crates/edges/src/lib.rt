@@ -3,5 +3,6 @@
 mod forms;
 #[cfg(test)]
 mod routines;
+pub mod shapes;
 #[cfg(test)]
 mod stores;

@@ -1,4 +1,8 @@
 // The check at its limits.
+use crate::shapes::chains;
+use crate::shapes::item;
+use crate::shapes::row;
+use crate::shapes::sum_of;
 use kinds::flags::Flag;
 use kinds::flags::FlagDebug;
 use kinds::flags::FlagKind;
@@ -12,66 +16,14 @@ use kinds::refusals::Refusal;
 use kinds::refusals::RefusalDebug;
 use kinds::refusals::RefusalPartialEq;
 use routine::checks::check;
-use routine::rows::CommandRow;
 use routine::rows::TermRow;
-use std::alloc::AllocError;
-use std::alloc::Global;
 use std::test::Fail;
 use std::test::check_eq;
-
-pub fn row(tag: u32, target: u32, from: u32, count: u32, left: u32) -> CommandRow {
-    CommandRow {
-        tag,
-        target,
-        from,
-        count,
-        left,
-    }
-}
-
-pub fn item(tag: u32, number: u16) -> TermRow {
-    TermRow { tag, number }
-}
 
 // One command row over the terms: a set of v0.
 fn set_to(v: u32, terms: &[TermRow]) -> Result<(), Refusal> {
     let count = u32::try_from(terms.len()).unwrap_or(0);
     check::<Number>(v, &[row(3, 0, 0, count, 0)], terms)
-}
-
-// `blocks` chains of `leaves` skips each, all in one chain: joined from the left.
-fn chains(heap: Global, blocks: u32, leaves: u32) -> Result<Vec<CommandRow>, AllocError> {
-    let mut rows = Vec::new(heap);
-    let mut at: u32 = 0;
-    for block in 0..blocks {
-        let before = at.wrapping_sub(1);
-        for leaf in 0..leaves {
-            let left = at.wrapping_sub(1);
-            rows.push(row(4, 7, 7, 7, 7))?;
-            at = at.wrapping_add(1);
-            if leaf > 0 {
-                rows.push(row(6, 7, 7, 7, left))?;
-                at = at.wrapping_add(1);
-            }
-        }
-        if block > 0 {
-            rows.push(row(6, 7, 7, 7, before))?;
-            at = at.wrapping_add(1);
-        }
-    }
-    Ok(rows)
-}
-
-// `values` literals, and the sums that make one of them.
-fn sum_of(heap: Global, values: u32) -> Result<Vec<TermRow>, AllocError> {
-    let mut rows = Vec::new(heap);
-    for _ in 0..values {
-        rows.push(item(1, 1))?;
-    }
-    for _ in 1..values {
-        rows.push(item(3, 0))?;
-    }
-    Ok(rows)
 }
 
 #[test]

@@ -76,6 +76,13 @@ impl Entries {
 }
 
 impl<S> Register<S> {
+    // The store with the nodes of all entries: it is looked at, and changed by the register alone.
+    pub fn store(&self) -> &S
+        ensures { λ r. ⌜ now r ≡ now (self .entry) .store ⌝ }
+    {
+        &self.store
+    }
+
     // A register with no entries.
     pub fn new(store: S, v: u32) -> Register<S>
         ensures { λ r. ⌜ ((E : List PassiveRow) (T : List PassiveTermRow) → held r E T ≡ new-held v store E T) ⌝ }
