@@ -1,14 +1,13 @@
 -- What an accepted forecast says of the passive form, the store and the tables.
 use mathlib.Core.Path.{_≡_, refl, ap, sym, subst, _∙_}
 use mathlib.Core.Bool.{Bool, true, false, cond, _&&_}
-use mathlib.Core.List.{List, [], _++_}
+use mathlib.Core.List.{List, _++_}
 use Prim.Native.Nat.{ℕ, _+_, _-_, _≤_}
 use native.Mathlib.Omega.{arith}
 use lib.Dec.{leb}
 use lib.ListN.{length, take, drop}
 use Rattle.std.proofs.shelf.Ways.{tells}
 use Rattle.std.proofs.shelf.Lists.{take-at, drop-at, length-push}
-use Rattle.std.specs.Results.{isOk}
 use Rattle.std.specs.declared.result.Result.{Result}
 use Rattle.std.specs.declared.result.Result.the-variants.{Ok, Err}
 use Rattle.kinds.specs.Kind.{KindOf}
@@ -19,9 +18,8 @@ use Rattle.routine.specs.declared.rows.TermRow.{TermRow}
 use Rattle.routine.specs.declared.rows.CommandRow.{CommandRow}
 use Rattle.routine.specs.Commands.{Command}
 use Rattle.routine.specs.Decoding.{decode}
-use Rattle.passive.specs.Passive.{Passified, Passive, passive-form}
+use Rattle.passive.specs.Passive.{Passive, passive-form}
 use Rattle.passive.specs.Uses.{Workable-form}
-use Rattle.passive.specs.Outcomes.{condition-nodes}
 use Rattle.passive.specs.Layout.{rows, terms, term-rows, layout, put}
 use Rattle.passive.specs.declared.rows.PassiveTermRow.{PassiveTermRow}
 use Rattle.passive.specs.declared.rows.PassiveRow.{PassiveRow}

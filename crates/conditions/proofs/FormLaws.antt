@@ -1,17 +1,16 @@
 -- The nodes of a whole passive form say its outcomes, and its condition says that it does not end wrong.
 use mathlib.Core.Path.{_≡_, refl, ap, sym, subst, _∙_}
-use mathlib.Core.Bool.{true, not}
 use mathlib.Core.List.{List, [], _∷_, _++_, append-assoc, append-nil}
 use Prim.Native.Nat.{ℕ, _+_, _-_}
 use native.Mathlib.Omega.{arith}
-use lib.ListN.{length, getD, length-append}
+use lib.ListN.{length, length-append}
 use Rattle.std.proofs.shelf.Lists.{getD-at}
 use Rattle.kinds.specs.Kind.{KindOf}
 use Rattle.kinds.specs.declared.numbered.Node.{Node}
 use Rattle.routine.specs.Commands.{Joint}
 use Rattle.routine.specs.Standing.{joint-tag}
 use Rattle.passive.specs.Passive.{PassiveSingle, Passive, p-single, p-join}
-use Rattle.passive.specs.Outcomes.{Assignment, Outcomes, joined-outcomes, outcomes, nodes}
+use Rattle.passive.specs.Outcomes.{Assignment, Outcomes, outcomes, nodes}
 use Rattle.passive.specs.Layout.{terms, term-rows, rows, plain-row, joint-row, single-row, layout}
 use Rattle.passive.specs.declared.rows.PassiveTermRow.{PassiveTermRow}
 use Rattle.passive.specs.declared.rows.PassiveRow.{PassiveRow}
@@ -20,7 +19,7 @@ use Rattle.conditions.specs.Reading.{items, part, alone, joins, reading}
 use Rattle.conditions.specs.Made.{Ends, row-ends, filled, ends-at, last-ends, Single-made, Joint-made, Row-made, Rows-made, rows-done, rows-more, Condition-made}
 use Rattle.conditions.specs.Valued.{all-outcomes, Says, Rows-say, Ends-used, Rows-used, Condition-valued}
 use Rattle.conditions.proofs.Frames.{grown-then, ends-later, rows-later, used-append}
-use Rattle.conditions.proofs.RowLaws.{Known, known-not, Ends-known, ends-known, says-later, made, grew, row-grown, row-used, single-says, joint-says}
+use Rattle.conditions.proofs.RowLaws.{known-not, ends-known, says-later, made, row-grown, row-used, single-says, joint-says}
 use Rattle.conditions.proofs.RowTurns.{last-pushed}
 use Rattle.conditions.proofs.Standings.{Stand, stand-whole, stand-left, stand-right, single-reading, joint-reading}
 
@@ -84,7 +83,6 @@ module _ {V : Type 0} {S : Type 0} (K : KindOf V) (M : Meaning V S) (steps : S �
       single-form p j s t done rest all stand n =
           let made : Single-made steps s p (n .between) (n .nodes) =
           subst (λ rd. Row-made steps s rd (ends-at done (single-row p j .left)) (last-ends done) (n .between) (n .nodes)) (single-reading table j p stand) (n .here) in
-          let none = single-row p j .left in
           record {
             between = n .between;
             front = [];

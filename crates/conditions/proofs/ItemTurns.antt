@@ -1,7 +1,6 @@
 -- The node of one row of a term, by the row's tag.
 use mathlib.Core.Path.{_≡_, refl, ap, sym, subst, _∙_}
 use mathlib.Core.Logic.{_≢_}
-use mathlib.Core.Bool.{cond}
 use mathlib.Core.List.{List, _∷_}
 use Prim.Native.Nat.{ℕ, _+_, _-_}
 use native.Mathlib.Omega.{arith}
@@ -12,7 +11,7 @@ use Rattle.kinds.specs.declared.numbered.Node.{Node}
 use Rattle.routine.specs.Commands.{Item, literal, reference, operation}
 use Rattle.passive.specs.Passive.{name}
 use Rattle.passive.specs.declared.rows.PassiveTermRow.{PassiveTermRow}
-use Rattle.formula.specs.Store.{Making, make-literal, make-name, make-operation}
+use Rattle.formula.specs.Store.{Making}
 use Rattle.conditions.specs.declared.making.Call.{Call}
 use Rattle.conditions.specs.declared.making.Call.the-variants.{Literal, Named, Operation}
 use Rattle.conditions.specs.declared.stacks.Stack.{Stack}

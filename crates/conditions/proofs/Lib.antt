@@ -1,6 +1,7 @@
 pub mod Waits
 pub mod Frames
 pub mod TermLaws
+pub mod Fixing
 pub mod ItemTurns
 pub mod TermTurns
 pub mod RowLaws

@@ -1,5 +1,5 @@
 -- What a row says by its tag, and what it then asks.
-use mathlib.Core.Path.{_≡_, refl, ap, sym, subst, _∙_}
+use mathlib.Core.Path.{_≡_, ap, sym, subst, _∙_}
 use mathlib.Core.Logic.{_≢_}
 use mathlib.Core.List.{List}
 use Prim.Native.Nat.{ℕ}
@@ -13,7 +13,7 @@ use Rattle.passive.specs.Passive.{p-stop}
 use Rattle.passive.specs.declared.rows.PassiveTermRow.{PassiveTermRow}
 use Rattle.passive.specs.declared.rows.PassiveRow.{PassiveRow}
 use Rattle.formula.specs.Store.{Making, Meaning}
-use Rattle.conditions.specs.Reading.{item, items, Reading, alone, reading, reading-at}
+use Rattle.conditions.specs.Reading.{item, items, alone, reading, reading-at}
 use Rattle.conditions.specs.Made.{Ends, Row-made}
 use Rattle.conditions.specs.Asks.{Room, reading-nodes, Reading-workable}
 

@@ -1,10 +1,9 @@
 -- What the calls for one row make: nodes that say what the row may do.
-use mathlib.Core.Path.{_≡_, refl, ap, ap₂, sym, subst, _∙_}
+use mathlib.Core.Path.{_≡_, ap, ap₂, _∙_}
 use mathlib.Core.Bool.{Bool, true, false, not, _&&_, _||_}
-use mathlib.Core.List.{List, []}
-use Prim.Native.Nat.{ℕ, _+_}
+use mathlib.Core.List.{[]}
+use Prim.Native.Nat.{ℕ}
 use native.Mathlib.Omega.{arith}
-use lib.ListN.{getD}
 use Rattle.kinds.specs.Kind.{KindOf}
 use Rattle.kinds.specs.declared.numbered.Name.{Name}
 use Rattle.kinds.specs.declared.numbered.Node.{Node}
@@ -13,7 +12,7 @@ use Rattle.passive.specs.Passive.{PassiveSingle}
 use Rattle.passive.specs.Outcomes.{Assignment, named, value-under, Outcomes, single-outcomes, joined-outcomes, single-nodes, joint-nodes}
 use Rattle.formula.specs.Store.{Making, make-name, make-same, make-not, make-and, make-or, yes-or-no, node-no, node-yes, Meaning, Lawful, Grown, Makes}
 use Rattle.conditions.specs.Reading.{Reading, alone, joins}
-use Rattle.conditions.specs.Made.{Ends, ends, Term-made, Single-made, assert-made, assume-made, let-made, skip-made, raise-made, stop-made, Or-and-made, or-and-made, Joint-made, sequence-made, catch-made, choice-made, Row-made}
+use Rattle.conditions.specs.Made.{Ends, Term-made, Single-made, assert-made, assume-made, let-made, skip-made, raise-made, stop-made, Or-and-made, or-and-made, Joint-made, sequence-made, catch-made, choice-made, Row-made}
 use Rattle.conditions.specs.Valued.{Says, Ends-used}
 use Rattle.conditions.specs.Asks.{reading-nodes}
 use Rattle.conditions.proofs.Frames.{grown-none, grown-then, grown-by}

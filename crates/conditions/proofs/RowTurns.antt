@@ -1,11 +1,11 @@
 -- The nodes of a passive form, one row at a time.
-use mathlib.Core.Path.{_≡_, refl, ap, ap₂, sym, subst, _∙_}
+use mathlib.Core.Path.{_≡_, refl, ap, sym, subst, _∙_}
 use mathlib.Core.Bool.{true}
 use mathlib.Core.List.{List, [], _∷_, _++_}
 use Prim.Native.Nat.{ℕ, zero, suc, _+_, _-_, _≤_, _<_}
 use native.Mathlib.Omega.{arith}
-use lib.ListN.{length, getD, set, take, drop, length-take}
-use Rattle.std.proofs.shelf.Lists.{drop-more, drop-all, take-all, take-more-set, drop-set-lt, getD-take, getD-push, length-push, length-take-le}
+use lib.ListN.{length, getD, set, take, drop}
+use Rattle.std.proofs.shelf.Lists.{drop-more, drop-all, take-all, take-more-set, drop-set-lt, getD-take, getD-push, length-push}
 use Rattle.kinds.specs.Kind.{KindOf}
 use Rattle.kinds.specs.declared.numbered.Node.{Node}
 use Rattle.passive.specs.Layout.{plain-row}

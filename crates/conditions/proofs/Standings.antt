@@ -11,14 +11,14 @@ use Rattle.kinds.specs.declared.numbered.Name.{Name}
 use Rattle.routine.specs.Commands.{Item, literal, reference, operation, Term, Joint, sequence, choice, catch}
 use Rattle.routine.specs.Standing.{joint-tag}
 use Rattle.passive.specs.Passive.{PassiveSingle, p-assert, p-assume, p-let, p-skip, p-raise, p-stop, Passive, p-single, p-join}
-use Rattle.passive.specs.Outcomes.{single-nodes, joint-nodes, nodes}
+use Rattle.passive.specs.Outcomes.{joint-nodes, nodes}
 use Rattle.passive.specs.Uses.{Workable-single, Workable-form}
 use Rattle.passive.specs.Layout.{single-term, terms, term-row, term-rows, rows, joint-row, single-row, layout}
 use Rattle.passive.specs.declared.rows.PassiveTermRow.{PassiveTermRow}
 use Rattle.passive.specs.declared.rows.PassiveRow.{PassiveRow}
 use Rattle.passify.proofs.Parts.{length-layout, length-term-rows}
 use Rattle.formula.specs.Store.{Meaning, node-no}
-use Rattle.conditions.specs.Reading.{item, items, part, Reading, alone, joins, reading}
+use Rattle.conditions.specs.Reading.{item, items, part, alone, joins, reading}
 use Rattle.conditions.specs.Valued.{Rows-used}
 use Rattle.conditions.specs.Asks.{reading-nodes, Reading-workable, Left-before, Row-fits, Rows-fit, rows-nodes}
 use Rattle.conditions.proofs.Frames.{used-append}

@@ -44,6 +44,7 @@ abbrev pub waiting-in : List Node → ℕ → List Node
 waiting-in slots zero = []
 waiting-in slots (suc h) = getD slots h node-no ∷ waiting-in slots h
 
+-- what waits on the code's stack
 abbrev pub waiting : Stack → List Node
 waiting k = waiting-in (k .slots) (k .height)
 
@@ -73,27 +74,28 @@ abbrev pub reading-nodes : Reading → ℕ
 reading-nodes (alone p) = single-nodes p
 reading-nodes (joins j) = joint-nodes j
 
--- the term and the name of a row are known
+-- the names of a row are below the width, and its term can be worked out
 abbrev pub Reading-workable : ℕ → ℕ → Reading → Type 0
 Reading-workable ops width (alone p) = Workable-single ops width p
 Reading-workable ops width (joins j) = Unit {0}
 
--- the left part of row i ends before it
+-- the left part of a joined row i ends before it; a row alone does not use `left`, which is a row of the table all the same
 abbrev pub Left-before : ℕ → ℕ → Reading → Type 0
 Left-before i left (alone p) = left ≤ i
 Left-before i left (joins j) = left < i
 
--- row i of a passive form with these terms
+-- row i is one of a passive form with these terms
 pub record Row-fits (ops width : ℕ) (terms : List PassiveTermRow) (i : ℕ) (r : PassiveRow) : Type 0 where
   pub within : r .from + r .count ≤ length terms
   pub workable : Reading-workable ops width (reading r (items (part terms r)))
   pub before : Left-before i (r .left) (reading r (items (part terms r)))
 
--- the rows from row i on
+-- and so are the rows from row i on
 abbrev pub Rows-fit : ℕ → ℕ → List PassiveTermRow → ℕ → List PassiveRow → Type 0
 Rows-fit ops width terms i [] = Unit {0}
 Rows-fit ops width terms i (r ∷ rs) = Row-fits ops width terms i r × Rows-fit ops width terms (i + 1) rs
 
+-- how many nodes the rows take
 abbrev pub rows-nodes : List PassiveTermRow → List PassiveRow → ℕ
 rows-nodes terms [] = 0
 rows-nodes terms (r ∷ rs) = reading-nodes (reading r (items (part terms r))) + rows-nodes terms rs

@@ -36,6 +36,7 @@ module _ {V : Type 0} {S : Type 0} (M : Meaning V S) (s : S) (row-room term-room
       (Err WorkTable))
       (Err Names)
 
+  -- a refusal stays
   abbrev pub measured-answer : Result FormMeasures Refusal → Result FormMeasures Refusal
   measured-answer (Ok m) = room-answer m
   measured-answer (Err e) = Err e

@@ -18,6 +18,7 @@ pub record Ends : Type 0 where
   pub X : Node
   pub W : Node
 
+-- N, X and W in this order
 abbrev pub ends : Node → Node → Node → Ends
 ends n x w = record { N = n; X = x; W = w }
 

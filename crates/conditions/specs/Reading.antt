@@ -17,6 +17,7 @@ item r =
     (cond (eqb (r .tag) 2) (reference (name (r .number)))
     (operation (r .number)))
 
+-- the term that these rows are
 abbrev pub items : List PassiveTermRow → Term Name
 items rows = map item rows
 
@@ -29,7 +30,7 @@ pub data Reading : Type 0 where
   alone : PassiveSingle → Reading
   joins : Joint → Reading
 
--- what a row of this tag says, where its term is t: 1 assert, 2 assume, 4 skip, 5 raise, 6 sequence, 7 choice, 8 catch, 9 let, 10 stop
+-- what a row of this tag says, where its term is t: 1 assert, 2 assume, 4 skip, 5 raise, 6 sequence, 7 choice, 8 catch, 9 let, and else stop, 10
 abbrev pub reading-at : ℕ → PassiveRow → Term Name → Reading
 reading-at tag r t =
     cond (eqb tag 1) (alone (p-assert t))
@@ -42,5 +43,6 @@ reading-at tag r t =
     (cond (eqb tag 9) (alone (p-let (r .f) t))
     (alone p-stop))))))))
 
+-- what a row says, where its term is t
 abbrev pub reading : PassiveRow → Term Name → Reading
 reading r t = reading-at (r .tag) r t

@@ -36,6 +36,7 @@ module _ {V : Type 0} {S : Type 0} (M : Meaning V S) where
     pub X : M .in-use s (e .X) ≡ true
     pub W : M .in-use s (e .W) ≡ true
 
+  -- the nodes in each row are in use
   abbrev pub Rows-used : S → List PassiveRow → Type 0
   Rows-used s [] = Unit {0}
   Rows-used s (r ∷ rs) = Ends-used s (row-ends r) × Rows-used s rs

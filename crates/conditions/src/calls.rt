@@ -1,12 +1,14 @@
 // The two calls: forecast and make_condition.
 ghost use mathlib.Core.Path.{_≡_};
 ghost use mathlib.Core.Bool.{true};
-ghost use Prim.Native.Nat.{ℕ};
 ghost use lib.ListN.{length};
 ghost use Rattle.std.specs.Results.{isOk};
 ghost use Rattle.std.specs.declared.result.Result.the-variants.{Ok};
 ghost use Rattle.routine.specs.Decoding.{decode};
 ghost use Rattle.passify.specs.Calls.{passify-answer, rows-after, terms-after};
+ghost use Rattle.formula.specs.Tables.{table-steps, Same-table};
+ghost use Rattle.formula.specs.Evaluators.{evaluator-steps, Same-values};
+ghost use Rattle.conditions.specs.Fixed.{Condition-fixed};
 ghost use Rattle.conditions.specs.Calls.{room-answer, condition-answer, Makes-condition};
 use crate::forms::condition_node;
 use formula::stores::Store;
@@ -92,9 +94,9 @@ fn write_form<K: Kind>(
     }
 }
 
-// Makes the condition of a routine in the store: a node that is true under a covered assignment where the passive form does not end wrong.
-// The passive form stands at the front of the two tables afterwards, with the nodes of each row in it. A refusal leaves store and tables
-// as they were.
+// Makes the condition of a routine in the store: a node that is true under exactly the covered assignments under which the passive form
+// does not end wrong. The passive form stands at the front of the two tables afterwards, with the nodes of each row in it. A refusal
+// leaves store and tables as they were.
 pub fn make_condition<S: Store>(
     store: &mut S,
     v: u32,
@@ -103,7 +105,9 @@ pub fn make_condition<S: Store>(
     rows: &mut [PassiveRow],
     out: &mut [PassiveTermRow],
 ) -> Result<Condition, Refusal>
-    ensures { λ r. ⌜ Makes-condition (Value·Kind .kind) meaning steps v (decode v (Value·Kind .kind .ops) (now (commands .entry)) (now (terms .entry))) (now (store .entry)) (now (rows .entry)) (now (out .entry)) r (now (store .exit)) (now (rows .exit)) (now (out .exit)) ⌝ }
+    ensures made { λ r. ⌜ Makes-condition (Value·Kind .kind) meaning steps v (decode v (Value·Kind .kind .ops) (now (commands .entry)) (now (terms .entry))) (now (store .entry)) (now (rows .entry)) (now (out .entry)) r (now (store .exit)) (now (rows .exit)) (now (out .exit)) ⌝ }
+    ensures tables { λ _. ⌜ Condition-fixed (Same-table {V = S·Value}) table-steps ⌝ }
+    ensures evaluators { λ _. ⌜ Condition-fixed Same-values (evaluator-steps (Value·Kind .kind)) ⌝ }
 {
     forecast(store, v, commands, terms, rows.len(), out.len())?;
     let form = write_form::<S::Value>(v, commands, terms, rows, out);

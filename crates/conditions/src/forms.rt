@@ -1,7 +1,7 @@
 // The nodes of a passive form, row by row.
 ghost use mathlib.Core.Path.{_≡_};
 ghost use mathlib.Core.List.{[]};
-ghost use Prim.Native.Nat.{ℕ, _+_, _<_};
+ghost use Prim.Native.Nat.{_+_, _<_};
 ghost use lib.ListN.{length};
 ghost use Rattle.conditions.specs.Made.{ends-at, last-ends, Rows-made, Table-made};
 ghost use Rattle.conditions.specs.Valued.{Rows-used};

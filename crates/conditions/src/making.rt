@@ -1,5 +1,4 @@
 // The making calls as values, and how one is made that is never refused.
-ghost use mathlib.Core.Path.{_≡_};
 ghost use Rattle.formula.specs.Store.{Answered};
 ghost use Rattle.conditions.specs.Asks.{making, Accepted};
 use formula::stores::Store;

@@ -1,9 +1,7 @@
 // The nodes of a row of a passive form: those that say whether it may end normally, raised or wrong, in this order.
 ghost use mathlib.Core.Path.{_≡_};
 ghost use mathlib.Core.Bool.{true};
-ghost use mathlib.Core.List.{[]};
-ghost use Prim.Native.Nat.{ℕ, _+_, _≤_, _<_};
-ghost use lib.ListN.{length};
+ghost use Prim.Native.Nat.{_<_};
 ghost use Rattle.routine.specs.Commands.{sequence, choice, catch};
 ghost use Rattle.conditions.specs.Reading.{items, reading};
 ghost use Rattle.conditions.specs.Made.{Or-and-made, Joint-made, Row-made};

@@ -1,7 +1,7 @@
 // The nodes that wait while a term's nodes are made.
 ghost use mathlib.Core.Path.{_≡_};
 ghost use mathlib.Core.List.{[], _∷_};
-ghost use Prim.Native.Nat.{ℕ, _+_, _≤_, _<_};
+ghost use Prim.Native.Nat.{_+_, _≤_, _<_};
 ghost use Rattle.conditions.specs.Asks.{waiting};
 use kinds::numbered::Node;
 

@@ -1,7 +1,7 @@
 // The nodes of a term.
 ghost use mathlib.Core.Path.{_≡_};
 ghost use mathlib.Core.List.{[]};
-ghost use Prim.Native.Nat.{ℕ, _+_, _≤_, _<_};
+ghost use Prim.Native.Nat.{_≤_, _<_};
 ghost use lib.ListN.{length};
 ghost use Rattle.passive.specs.Uses.{Workable-under};
 ghost use Rattle.conditions.specs.Reading.{item, items};

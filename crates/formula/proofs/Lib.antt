@@ -1,3 +1,4 @@
 pub mod CountLaws
 pub mod TableLaws
 pub mod EvaluatorLaws
+pub mod StoreFixing

@@ -64,6 +64,12 @@ module _ {V : Type 0} where
   abbrev pub values-asked : KindOf V → Evaluator V → Node → Node → Result (V × V) Refusal
   values-asked K s p q = cond (below (s .count) p && below (s .count) q) (Ok (node-value K s p, node-value K s q)) (Err NotInUse)
 
+  -- two evaluators look alike: they have the same count, width and values
+  pub record Same-values (s s′ : Evaluator V) : Type 0 where
+    pub count : s .count ≡ s′ .count
+    pub width : s .width ≡ s′ .width
+    pub values : vec-items (s .values) ≡ vec-items (s′ .values)
+
 -- the value asked of a node is the one that the call which made it states, then and after any later call
 abbrev pub Values-stand : {V : Type 0} → KindOf V → Type 0
 Values-stand {V = V} K =

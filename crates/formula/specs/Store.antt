@@ -165,6 +165,12 @@ Done-or-refused refusal done s (Err e) t = (refusal ≡ Some e) × (t ≡ s)
 abbrev pub Answered : {V : Type 0} {S : Type 0} → KindOf V → Meaning V S → (S → Making → Node → S → Type 0) → S → Making → Result Node Refusal → S → Type 0
 Answered K M steps s c r t = Done-or-refused (refused-by K M s c) (steps s c) s r t
 
+-- stores that look alike go on alike: the same call answers the same node, and they look alike again
+abbrev pub Fixing : {S : Type 0} → (S → S → Type 0) → (S → Making → Node → S → Type 0) → Type 0
+Fixing {S = S} Alike steps =
+    (s s′ : S) (c : Making) (n n′ : Node) (t t′ : S) → Alike s s′ → steps s c n t → steps s′ c n′ t′ →
+    (n ≡ n′) × Alike t t′
+
 -- what the table store and the evaluator have in common
 
 -- the capacity where this many places are given for nodes from 2 on

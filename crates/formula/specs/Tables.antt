@@ -102,6 +102,12 @@ module _ {V : Type 0} where
       (Ok (getD (vec-items (s .rows)) (n .0 - 2) (node-row 0 0 0 0)))
       (Err NotInUse)
 
+  -- two table stores look alike: they have the same count, width and rows
+  pub record Same-table (s s′ : TableStore V) : Type 0 where
+    pub count : s .count ≡ s′ .count
+    pub width : s .width ≡ s′ .width
+    pub rows : vec-items (s .rows) ≡ vec-items (s′ .rows)
+
 -- the row asked of a node is that of the call that made it, now and after any later call
 abbrev pub Rows-stand : Type 0 → Type 0
 Rows-stand V =

@@ -3,8 +3,8 @@ ghost use mathlib.Core.Path.{_≡_};
 ghost use Prim.Native.Nat.{_≤_, min};
 ghost use lib.ListN.{take};
 ghost use Rattle.std.specs.Of.Vec.{vec-len, vec-items};
-ghost use Rattle.formula.specs.Store.{yes-or-no, free-place, Done-or-refused};
-ghost use Rattle.formula.specs.Evaluators.{assignment, place-of, evaluator-meaning, evaluator-steps, ValuePlaced, value-asked, values-asked, Values-stand};
+ghost use Rattle.formula.specs.Store.{yes-or-no, free-place, Done-or-refused, Fixing};
+ghost use Rattle.formula.specs.Evaluators.{assignment, place-of, evaluator-meaning, evaluator-steps, ValuePlaced, value-asked, values-asked, Values-stand, Same-values};
 use crate::evaluators::Evaluator;
 use crate::stores::Store;
 use crate::stores::capacity_of;
@@ -54,6 +54,7 @@ impl<K: Kind> Evaluator<K> {
     pub fn value(&self, node: Node) -> Result<K, Refusal>
         ensures asked { λ r. ⌜ r ≡ value-asked kind (now (self .entry)) node ⌝ }
         ensures made { λ _. ⌜ Values-stand kind ⌝ }
+        ensures fixing { λ _. ⌜ Fixing Same-values (evaluator-steps kind) ⌝ }
     {
         if node.0 >= self.count {
             return Err(Refusal::NotInUse);

@@ -1,7 +1,7 @@
 // The calls of the table store.
 ghost use mathlib.Core.Path.{_≡_};
-ghost use Rattle.formula.specs.Store.{Done-or-refused, free-place};
-ghost use Rattle.formula.specs.Tables.{table-meaning, table-steps, node-row, RowPlaced, combine-refusal, row-asked, Rows-stand};
+ghost use Rattle.formula.specs.Store.{Done-or-refused, free-place, Fixing};
+ghost use Rattle.formula.specs.Tables.{table-meaning, table-steps, node-row, RowPlaced, combine-refusal, row-asked, Rows-stand, Same-table};
 use crate::stores::Store;
 use crate::stores::capacity_of;
 use crate::tables::NodeRow;
@@ -18,6 +18,7 @@ impl<K> TableStore<K> {
         ensures count { λ r. ⌜ r .count ≡ 2 ⌝ }
         ensures width { λ r. ⌜ r .width ≡ width ⌝ }
         ensures rows { λ r. ⌜ r .rows ≡ rows ⌝ }
+        ensures fixing { λ _. ⌜ Fixing (Same-table {V = K}) table-steps ⌝ }
     {
         TableStore {
             rows,

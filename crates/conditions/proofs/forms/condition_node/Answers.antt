@@ -1,5 +1,6 @@
-use mathlib.Core.Path.{ap, sym, subst}
+use mathlib.Core.Path.{sym, subst}
 use native.Mathlib.Omega.{arith}
+use Rattle.formula.specs.Store.{make-not}
 use Rattle.conditions.specs.Made.{Ends}
 use Rattle.conditions.specs.Valued.{Ends-used}
 use Rattle.conditions.proofs.Frames.{room-later, not-accepted}
@@ -22,5 +23,5 @@ pub returns : need.returns
 returns g c = record {
   between = c .form-nodes .last .store;
   rows-made = c .form-nodes .ensures .made;
-  last-made = subst (λ (e : Ends). g .S·Store .steps (c .form-nodes .last .store) (Rattle.formula.specs.Store.make-not (e .W)) (c .make .result) (c .make .last .store)) (c .form-nodes .ensures .last) (c .make .ensures);
+  last-made = subst (λ (e : Ends). g .S·Store .steps (c .form-nodes .last .store) (make-not (e .W)) (c .make .result) (c .make .last .store)) (c .form-nodes .ensures .last) (c .make .ensures);
 }

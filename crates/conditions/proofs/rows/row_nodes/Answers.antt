@@ -1,5 +1,4 @@
-use mathlib.Core.Path.{_≡_, sym, subst}
-use mathlib.Core.Logic.{_≢_}
+use mathlib.Core.Path.{sym, subst}
 use native.Mathlib.Omega.{arith}
 use borrow.Author.Needs.{needs}
 use Rattle.conditions.specs.Reading.{items}

@@ -1,4 +1,4 @@
-use Prim.Native.Nat.{ℕ, _≤_}
+use Prim.Native.Nat.{_≤_}
 use mathlib.Core.List.{[]}
 use lib.ListN.{drop}
 use Rattle.kinds.specs.declared.numbered.Node.{Node}

@@ -23,5 +23,5 @@ pub returns : need.returns
 returns g c =
     filed-by (g .Value·Kind .kind) (g .S·Store .meaning) (g .S·Store .steps) (held (c .args .self .now) (c .args .rows .now) (c .args .out .now))
     (c .args .commands .now) (c .args .terms .now) (c .in-Continue-made .made) (c .make-condition .last .store) (c .make-condition .last .rows)
-    (c .make-condition .last .out) _ _ (c .in-Continue-made .ensures tt)
+    (c .make-condition .last .out) _ _ (c .in-Continue-made .ensures tt .made)
     (ap length (c .in-use-entry .ensures .listed)) (c .if-entry-ge-MOST-ENTRIES .left) (c .push .ensures .listed)
