@@ -2,6 +2,8 @@
 #[cfg(test)]
 mod forms;
 #[cfg(test)]
+mod registers;
+#[cfg(test)]
 mod routines;
 pub mod shapes;
 #[cfg(test)]
