@@ -79,9 +79,23 @@ fn places_and_tables(rt: LibcRuntime) -> Result<(), Fail> {
     let answer = make_condition(&mut store, v, commands, terms, &mut rows, &mut out);
     check_eq(answer, Err(Refusal::Names))?;
     let mut store: TableStore<Number> = TableStore::new(vec![in rt.alloc(); UNUSED; 25]?, 2);
-    let answer = make_condition(&mut store, v, commands, terms, &mut [BLANK_ROW; 4], &mut out);
+    let answer = make_condition(
+        &mut store,
+        v,
+        commands,
+        terms,
+        &mut [BLANK_ROW; 4],
+        &mut out,
+    );
     check_eq(answer, Err(Refusal::WorkTable))?;
-    let answer = make_condition(&mut store, v, commands, terms, &mut rows, &mut [BLANK_TERM; 10]);
+    let answer = make_condition(
+        &mut store,
+        v,
+        commands,
+        terms,
+        &mut rows,
+        &mut [BLANK_TERM; 10],
+    );
     check_eq(answer, Err(Refusal::WorkTable))?;
     check_eq(store.count(), 2)?;
     let answer = make_condition(&mut store, v, commands, terms, &mut rows, &mut out);
