@@ -1,6 +1,6 @@
 // Twelve worked routines over numbers, C1 to C12, each as its rows. What the rules say of them is the contract of `worked_out`.
 ghost use Rattle.worked.specs.Tables.{commands-1, terms-1, commands-2, terms-2, commands-3, terms-3, commands-4, terms-4, commands-5, terms-5, commands-6, terms-6, commands-7, terms-7, commands-8, terms-8, commands-9, terms-9, commands-10, terms-10, commands-11, terms-11, commands-12, terms-12};
-ghost use Rattle.worked.specs.Tabled.{Tabled, Numbered};
+ghost use Rattle.worked.specs.Tabled.{Tabled};
 ghost use Rattle.worked.specs.Worked.{Worked-out};
 use routine::rows::CommandRow;
 use routine::rows::TermRow;
@@ -217,27 +217,6 @@ pub fn twelfth() -> Routine
         v: 0,
         commands: &[row!(SKIP), row!(SKIP), row!(SEQUENCE, left 1)],
         terms: &[],
-    }
-}
-
-// The worked routine of a number from 1 to 12.
-pub fn numbered(number: u32) -> Option<Routine>
-    ensures { λ r. ⌜ Numbered number r ⌝ }
-{
-    match number {
-        1 => Some(first()),
-        2 => Some(second()),
-        3 => Some(third()),
-        4 => Some(fourth()),
-        5 => Some(fifth()),
-        6 => Some(sixth()),
-        7 => Some(seventh()),
-        8 => Some(eighth()),
-        9 => Some(ninth()),
-        10 => Some(tenth()),
-        11 => Some(eleventh()),
-        12 => Some(twelfth()),
-        _ => None,
     }
 }
 
