@@ -1,4 +1,7 @@
 // What routines that grow take: `bench counts` prints counts, the same on every run, and `bench time` times the calls as well.
+
+#![tactic(auto)]
+
 ghost use Rattle.std.specs.Prelude.{◌≡◌};
 ghost use Rattle.bench.specs.Shown.{joint_name, shape_name};
 

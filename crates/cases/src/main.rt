@@ -1,4 +1,7 @@
 // The sixteen worked routines, filed in a register, with every figure and value compared with what the rules give.
+
+#![tactic(auto)]
+
 ghost use Rattle.std.specs.Prelude.{◌≡◌, ◌+◌, ◌%◌, ◌^◌, true, IfOk, Ok};
 
 use anyhow::anyhow;

@@ -1,4 +1,7 @@
 // The verification condition of a routine, as a node of a formula store.
+
+#![tactic(auto)]
+
 pub mod calls;
 mod forms;
 mod making;

@@ -1,4 +1,7 @@
 // Tests of every limit: the last accepted value and the first refused one; and passive forms worked out by hand.
+
+#![tactic(auto)]
+
 #[cfg(test)]
 mod forms;
 #[cfg(test)]

@@ -1,4 +1,7 @@
 // What every layer above builds on: kinds of value, the three sorts of number that name things, and the refusals.
+
+#![tactic(auto)]
+
 pub mod flags;
 pub mod kind;
 pub mod numbered;

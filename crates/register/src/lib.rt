@@ -1,3 +1,6 @@
 // The register of conditions.
+
+#![tactic(auto)]
+
 pub mod entries;
 pub mod registers;

@@ -1,3 +1,6 @@
 // Routines in tables: their rows, and the check that accepts or refuses them.
+
+#![tactic(auto)]
+
 pub mod checks;
 pub mod rows;

@@ -1,4 +1,7 @@
 // The sample: make v0 positive, asserting that it is; count v1 down where it is positive; assert that v0 is not negative.
+
+#![tactic(auto)]
+
 ghost use Rattle.std.specs.Prelude.{◌≡◌, Ok};
 ghost use Rattle.routine.specs.Decoding.{decode};
 ghost use Rattle.samples.specs.Sample.{sample_routine};

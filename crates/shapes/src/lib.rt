@@ -1,4 +1,7 @@
 // Routines of a wanted size and depth, written into a lent table.
+
+#![tactic(auto)]
+
 ghost use Rattle.std.specs.Prelude.{◌≡◌, ℕ, ◌%◌, ◌<◌, length, slice_index_or};
 ghost use Rattle.shapes.specs.declared.Shape.TheVariants.{Combs};
 ghost use Rattle.worked.specs.Tables.{skip_row, literal_row};

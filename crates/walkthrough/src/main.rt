@@ -1,4 +1,7 @@
 // The walkthrough: one routine taken through every layer, with what each layer says of it.
+
+#![tactic(auto)]
+
 ghost use Rattle.std.specs.Prelude.{◌≡◌};
 ghost use Rattle.routine.specs.Decoding.{decode, verdict};
 

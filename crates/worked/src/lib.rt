@@ -1,4 +1,7 @@
 // Twelve worked routines over numbers, C1 to C12, each as its rows. What the rules say of them is the contract of `worked_out`.
+
+#![tactic(auto)]
+
 ghost use Rattle.worked.specs.Tables.{commands_1, terms_1, commands_2, terms_2, commands_3, terms_3, commands_4, terms_4, commands_5, terms_5, commands_6, terms_6, commands_7, terms_7, commands_8, terms_8, commands_9, terms_9, commands_10, terms_10, commands_11, terms_11, commands_12, terms_12};
 ghost use Rattle.worked.specs.Tabled.{Tabled};
 ghost use Rattle.worked.specs.Worked.{WorkedOut};
