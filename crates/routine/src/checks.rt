@@ -162,9 +162,9 @@ fn check_rows(v: u32, ops: u32, commands: &[CommandRow], terms: &[TermRow]) -> R
 
 // Whether the rows are a routine of `v` variables over the kind: accepted, or refused by the first rule that they break.
 pub fn check<K: Kind>(v: u32, commands: &[CommandRow], terms: &[TermRow]) -> Result<(), Refusal>
-    ensures answer { result ≡ verdict (decode v kind.ops commands.now terms.now) }
-    ensures sound { DecodingSound v kind.ops commands.now terms.now }
-    ensures complete { DecodingComplete v kind.ops commands.now terms.now }
+    ensures answer { result ≡ verdict (decode v K.kind.ops commands.now terms.now) }
+    ensures sound { DecodingSound v K.kind.ops commands.now terms.now }
+    ensures complete { DecodingComplete v K.kind.ops commands.now terms.now }
 {
     check_rows(v, u32::from(K::ops()), commands, terms)
 }

@@ -9,28 +9,28 @@ place-requires c = sofar_ready _ _ _ _ c.loop-i.invariant (omega arith)
 
 pub loop-i-preserved : goal.loop-i-preserved
 loop-i-preserved c =
-    sofar_more _ _ _ _ c.loop-i.invariant _ c.loop-i-test.true c.if-commands-gt-MOST-COMMANDS.false _
-    (sym c.place.ensures ∙ c.in-ok-parts.was)
+    sofar_more _ _ _ _ c.loop-i.invariant _ c.loop-i-test.true c.if-commands-gt-MOST_COMMANDS.false _
+    (sym c.place.ensures ∙ c.in_ok-parts.was)
 
-pub returns-in-err-parts : goal.returns-in-err-parts
-returns-in-err-parts c =
-    let p = err_from_is_err_and c.from-residual.result c.from-residual.ensures.1 in
+pub returns-in_err-parts : goal.returns-in_err-parts
+returns-in_err-parts c =
+    let p = err_from_is_err_and c.from_residual.result c.from_residual.ensures.1 in
     let within =
-    decode_within _ _ _ _ c.if-v-gt-MOST-VARIABLES.false (omega (arith, false-eqb _ 0 c.if-is-empty.ensures))
-    c.if-commands-gt-MOST-COMMANDS.false c.if-terms-gt-MOST-TERMS.false in
+    decode_within _ _ _ _ c.if-v-gt-MOST_VARIABLES.false (omega (arith, false-eqb _ 0 c.if-is_empty.ensures))
+    c.if-commands-gt-MOST_COMMANDS.false c.if-terms-gt-MOST_TERMS.false in
     let stop =
-    sofar_stop _ _ _ _ c.loop-i.invariant _ c.loop-i-test.true c.if-commands-gt-MOST-COMMANDS.false _
-    (sym c.place.ensures ∙ c.in-err-parts.was) in
+    sofar_stop _ _ _ _ c.loop-i.invariant _ c.loop-i-test.true c.if-commands-gt-MOST_COMMANDS.false _
+    (sym c.place.ensures ∙ c.in_err-parts.was) in
     rw (p.1, p.2) (sym (ap verdict (within ∙ stop)))
 
 pub returns-then-parts-commands-eq0 : goal.returns-then-parts-commands-eq0
 returns-then-parts-commands-eq0 c =
-    ends_whole _ _ _ _ c.if-v-gt-MOST-VARIABLES.false (omega (arith, false-eqb _ 0 c.if-is-empty.ensures))
-    c.if-commands-gt-MOST-COMMANDS.false c.if-terms-gt-MOST-TERMS.false c.loop-i.invariant c.loop-i-test.false c.loop-i.auto.i-end
+    ends_whole _ _ _ _ c.if-v-gt-MOST_VARIABLES.false (omega (arith, false-eqb _ 0 c.if-is_empty.ensures))
+    c.if-commands-gt-MOST_COMMANDS.false c.if-terms-gt-MOST_TERMS.false c.loop-i.invariant c.loop-i-test.false c.loop-i.auto.i-end
     c.if-parts-commands-eq0.true
 
 pub returns-else-parts-commands-eq0 : goal.returns-else-parts-commands-eq0
 returns-else-parts-commands-eq0 c =
-    ends_split _ _ _ _ c.if-v-gt-MOST-VARIABLES.false (omega (arith, false-eqb _ 0 c.if-is-empty.ensures))
-    c.if-commands-gt-MOST-COMMANDS.false c.if-terms-gt-MOST-TERMS.false c.loop-i.invariant c.loop-i-test.false c.loop-i.auto.i-end
+    ends_split _ _ _ _ c.if-v-gt-MOST_VARIABLES.false (omega (arith, false-eqb _ 0 c.if-is_empty.ensures))
+    c.if-commands-gt-MOST_COMMANDS.false c.if-terms-gt-MOST_TERMS.false c.loop-i.invariant c.loop-i-test.false c.loop-i.auto.i-end
     c.if-parts-commands-eq0.false
