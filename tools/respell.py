@@ -46,14 +46,15 @@ def defined(paths):
                 continue
             m = SIGN.match(code(line))
             for name in m[3].split() if m and not re.match(r"\s*(let|in|elim)\s", line) else []:
-                if "-" in name and re.match(r"^[A-Za-z]", name):
+                # port.py writes a type of two words with a _ where the library has such a word
+                if re.match(r"^[A-Za-z].*-|^[A-Z].*_", name):
                     out.setdefault(name, set()).add(p)
     return out
 
 
 def respelled(name):
     if name[0].isupper():
-        parts = name.split("-")
+        parts = re.split("[-_]", name)
         return parts[0] + "".join(x[:1].upper() + x[1:] for x in parts[1:])
     return name.replace("-", "_")
 

@@ -36,7 +36,7 @@ fn find_room<S: Store>(
     row_room: usize,
     term_room: usize,
 ) -> Result<FormMeasures, Refusal>
-    ensures { result ≡ room_answer meaning store.now row_room term_room form }
+    ensures { result ≡ room_answer S.meaning store.now row_room term_room form }
 {
     if form.names > MOST_NAMES || form.names > store.width() {
         return Err(Refusal::Names);
@@ -59,7 +59,7 @@ pub fn forecast<S: Store>(
     row_room: usize,
     term_room: usize,
 ) -> Result<FormMeasures, Refusal>
-    ensures { result ≡ condition_answer meaning store.now row_room term_room v (decode v Value-as-Kind.kind.ops commands.now terms.now) }
+    ensures { result ≡ condition_answer S.meaning store.now row_room term_room v (decode v S.Value.kind.ops commands.now terms.now) }
 {
     let form = measure::<S::Value>(v, commands, terms)?;
     find_room(store, form, row_room, term_room)
@@ -73,10 +73,10 @@ fn write_form<K: Kind>(
     rows: &mut [PassiveRow],
     out: &mut [PassiveTermRow],
 ) -> FormLengths
-    requires { is_ok (passify_answer v (decode v kind.ops commands.now terms.now) (length rows.old) (length out.old)) ≡ true }
-    ensures answer { Ok result ≡ passify_answer v (decode v kind.ops commands.now terms.now) (length rows.old) (length out.old) }
-    ensures rows { rows.new ≡ rows_after v (decode v kind.ops commands.now terms.now) (Ok result) rows.old }
-    ensures terms { out.new ≡ terms_after v (decode v kind.ops commands.now terms.now) (Ok result) out.old }
+    requires { is_ok (passify_answer v (decode v K.kind.ops commands.now terms.now) (length rows.old) (length out.old)) ≡ true }
+    ensures answer { Ok result ≡ passify_answer v (decode v K.kind.ops commands.now terms.now) (length rows.old) (length out.old) }
+    ensures rows { rows.new ≡ rows_after v (decode v K.kind.ops commands.now terms.now) (Ok result) rows.old }
+    ensures terms { out.new ≡ terms_after v (decode v K.kind.ops commands.now terms.now) (Ok result) out.old }
 {
     match passify::<K>(v, commands, terms, rows, out) {
         Ok(form) => form,
@@ -95,9 +95,9 @@ pub fn make_condition<S: Store>(
     rows: &mut [PassiveRow],
     out: &mut [PassiveTermRow],
 ) -> Result<Condition, Refusal>
-    ensures made { MakesCondition Value-as-Kind.kind meaning steps v (decode v Value-as-Kind.kind.ops commands.now terms.now) store.old rows.old out.old result store.new rows.new out.new }
+    ensures made { MakesCondition S.Value.kind S.meaning S.steps v (decode v S.Value.kind.ops commands.now terms.now) store.old rows.old out.old result store.new rows.new out.new }
     ensures tables { ConditionFixed (SameTable {V = S.Value}) table_steps }
-    ensures evaluators { ConditionFixed SameValues (evaluator_steps S.Value.Kind.kind) }
+    ensures evaluators { ConditionFixed SameValues (evaluator_steps S.Value.kind) }
 {
     forecast(store, v, commands, terms, rows.len(), out.len())?;
     let form = write_form::<S::Value>(v, commands, terms, rows, out);

@@ -25,10 +25,10 @@ fn form_nodes<S: Store>(
     rows: &mut [PassiveRow],
     terms: &[PassiveTermRow],
 ) -> (Node, Node, Node)
-    requires fit { RowsFit Value-as-Kind.kind.ops (meaning.width store.old) terms.now 0 rows.old }
-    requires used { RowsUsed meaning store.old rows.old }
-    requires room { Room meaning store.old (rows_nodes terms.now rows.old) }
-    ensures made { RowsMade steps terms.now store.old [] rows.old store.new rows.new }
+    requires fit { RowsFit S.Value.kind.ops (S.meaning.width store.old) terms.now 0 rows.old }
+    requires used { RowsUsed S.meaning store.old rows.old }
+    requires room { Room S.meaning store.old (rows_nodes terms.now rows.old) }
+    ensures made { RowsMade S.steps terms.now store.old [] rows.old store.new rows.new }
     ensures last { ends_of result ≡ last_ends rows.new }
 {
     let mut last = (NO, NO, NO);
@@ -54,10 +54,10 @@ pub fn condition_node<S: Store>(
     rows: &mut [PassiveRow],
     terms: &[PassiveTermRow],
 ) -> Node
-    requires fit { RowsFit Value-as-Kind.kind.ops (meaning.width store.old) terms.now 0 rows.old }
-    requires used { RowsUsed meaning store.old rows.old }
-    requires room { Room meaning store.old (rows_nodes terms.now rows.old + 1) }
-    ensures { TableMade steps terms.now rows.old store.old rows.new result store.new }
+    requires fit { RowsFit S.Value.kind.ops (S.meaning.width store.old) terms.now 0 rows.old }
+    requires used { RowsUsed S.meaning store.old rows.old }
+    requires room { Room S.meaning store.old (rows_nodes terms.now rows.old + 1) }
+    ensures { TableMade S.steps terms.now rows.old store.old rows.new result store.new }
 {
     let (_, _, wrong) = form_nodes(store, rows, terms);
     make(store, Call::Not(wrong))

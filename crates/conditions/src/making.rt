@@ -18,7 +18,7 @@ pub enum Call {
 }
 
 fn answer<S: Store>(store: &mut S, call: Call) -> Result<Node, Refusal>
-    ensures { Answered Value-as-Kind.kind meaning steps store.old (making call) result store.new }
+    ensures { Answered S.Value.kind S.meaning S.steps store.old (making call) result store.new }
 {
     match call {
         Call::Literal(n) => store.literal(n),
@@ -33,8 +33,8 @@ fn answer<S: Store>(store: &mut S, call: Call) -> Result<Node, Refusal>
 
 // The node of a call that is not refused.
 pub fn make<S: Store>(store: &mut S, call: Call) -> Node
-    requires { Accepted Value-as-Kind.kind meaning store.old (making call) }
-    ensures { steps store.old (making call) result store.new }
+    requires { Accepted S.Value.kind S.meaning store.old (making call) }
+    ensures { S.steps store.old (making call) result store.new }
 {
     match answer(store, call) {
         Ok(node) => node,

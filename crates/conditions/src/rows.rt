@@ -18,9 +18,9 @@ const YES: Node = Node(1);
 
 // The node of p or (q and r).
 fn or_and<S: Store>(store: &mut S, p: Node, q: Node, r: Node) -> Node
-    requires used { (meaning.in_use store.old p ≡ true) × ((meaning.in_use store.old q ≡ true) × (meaning.in_use store.old r ≡ true)) }
-    requires room { Room meaning store.old 2 }
-    ensures { OrAndMade steps store.old p q r store.new result }
+    requires used { (S.meaning.in_use store.old p ≡ true) × ((S.meaning.in_use store.old q ≡ true) × (S.meaning.in_use store.old r ≡ true)) }
+    requires room { Room S.meaning store.old 2 }
+    ensures { OrAndMade S.steps store.old p q r store.new result }
 {
     let both = make(store, Call::And(q, r));
     make(store, Call::Or(p, both))
@@ -31,10 +31,10 @@ fn sequence_nodes<S: Store>(
     left: (Node, Node, Node),
     right: (Node, Node, Node),
 ) -> (Node, Node, Node)
-    requires left { EndsUsed meaning store.old (ends_of left) }
-    requires right { EndsUsed meaning store.old (ends_of right) }
-    requires room { Room meaning store.old 5 }
-    ensures { JointMade steps store.old sequence (ends_of left) (ends_of right) store.new (ends_of result) }
+    requires left { EndsUsed S.meaning store.old (ends_of left) }
+    requires right { EndsUsed S.meaning store.old (ends_of right) }
+    requires room { Room S.meaning store.old 5 }
+    ensures { JointMade S.steps store.old sequence (ends_of left) (ends_of right) store.new (ends_of result) }
 {
     let normal = make(store, Call::And(left.0, right.0));
     let raised = or_and(store, left.1, left.0, right.1);
@@ -47,10 +47,10 @@ fn catch_nodes<S: Store>(
     left: (Node, Node, Node),
     right: (Node, Node, Node),
 ) -> (Node, Node, Node)
-    requires left { EndsUsed meaning store.old (ends_of left) }
-    requires right { EndsUsed meaning store.old (ends_of right) }
-    requires room { Room meaning store.old 5 }
-    ensures { JointMade steps store.old catch (ends_of left) (ends_of right) store.new (ends_of result) }
+    requires left { EndsUsed S.meaning store.old (ends_of left) }
+    requires right { EndsUsed S.meaning store.old (ends_of right) }
+    requires room { Room S.meaning store.old 5 }
+    ensures { JointMade S.steps store.old catch (ends_of left) (ends_of right) store.new (ends_of result) }
 {
     let normal = or_and(store, left.0, left.1, right.0);
     let raised = make(store, Call::And(left.1, right.1));
@@ -63,10 +63,10 @@ fn choice_nodes<S: Store>(
     left: (Node, Node, Node),
     right: (Node, Node, Node),
 ) -> (Node, Node, Node)
-    requires left { EndsUsed meaning store.old (ends_of left) }
-    requires right { EndsUsed meaning store.old (ends_of right) }
-    requires room { Room meaning store.old 3 }
-    ensures { JointMade steps store.old choice (ends_of left) (ends_of right) store.new (ends_of result) }
+    requires left { EndsUsed S.meaning store.old (ends_of left) }
+    requires right { EndsUsed S.meaning store.old (ends_of right) }
+    requires room { Room S.meaning store.old 3 }
+    ensures { JointMade S.steps store.old choice (ends_of left) (ends_of right) store.new (ends_of result) }
 {
     let normal = make(store, Call::Or(left.0, right.0));
     let raised = make(store, Call::Or(left.1, right.1));
@@ -82,11 +82,11 @@ pub fn row_nodes<S: Store>(
     left: (Node, Node, Node),
     right: (Node, Node, Node),
 ) -> (Node, Node, Node)
-    requires workable { ReadingWorkable Value-as-Kind.kind.ops (meaning.width store.old) (reading row (items terms.now)) }
-    requires left { EndsUsed meaning store.old (ends_of left) }
-    requires right { EndsUsed meaning store.old (ends_of right) }
-    requires room { Room meaning store.old (reading_nodes (reading row (items terms.now))) }
-    ensures { RowMade steps store.old (reading row (items terms.now)) (ends_of left) (ends_of right) store.new (ends_of result) }
+    requires workable { ReadingWorkable S.Value.kind.ops (S.meaning.width store.old) (reading row (items terms.now)) }
+    requires left { EndsUsed S.meaning store.old (ends_of left) }
+    requires right { EndsUsed S.meaning store.old (ends_of right) }
+    requires room { Room S.meaning store.old (reading_nodes (reading row (items terms.now))) }
+    ensures { RowMade S.steps store.old (reading row (items terms.now)) (ends_of left) (ends_of right) store.new (ends_of result) }
 {
     match row.tag {
         1 => {

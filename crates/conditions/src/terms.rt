@@ -13,11 +13,11 @@ use passive::rows::PassiveTermRow;
 
 // The node of one row of a term, which then waits in place of those that it took.
 fn row_node<S: Store>(store: &mut S, stack: &mut Stack, row: PassiveTermRow)
-    requires workable { ItemWorkable Value-as-Kind.kind.ops (meaning.width store.old) (item row) stack.old.height }
+    requires workable { ItemWorkable S.Value.kind.ops (S.meaning.width store.old) (item row) stack.old.height }
     requires few { stack.old.height ≤ 16 }
-    requires used { NodesUsed meaning store.old (waiting stack.old) }
-    requires room { Room meaning store.old 1 }
-    ensures made { ItemMade steps store.old (waiting stack.old) (item row) store.new (waiting stack.new) }
+    requires used { NodesUsed S.meaning store.old (waiting stack.old) }
+    requires room { Room S.meaning store.old 1 }
+    ensures made { ItemMade S.steps store.old (waiting stack.old) (item row) store.new (waiting stack.new) }
     ensures height { stack.new.height ≡ waiting_then (item row) stack.old.height }
 {
     let call = match row.tag {
@@ -35,9 +35,9 @@ fn row_node<S: Store>(store: &mut S, stack: &mut Stack, row: PassiveTermRow)
 
 // The node of a term: one node for each of its rows, in order.
 pub fn term_node<S: Store>(store: &mut S, terms: &[PassiveTermRow]) -> Node
-    requires workable { WorkableUnder Value-as-Kind.kind.ops (meaning.width store.old) (items terms.now) }
-    requires room { Room meaning store.old (length terms.now) }
-    ensures { TermMade steps store.old [] (items terms.now) store.new result }
+    requires workable { WorkableUnder S.Value.kind.ops (S.meaning.width store.old) (items terms.now) }
+    requires room { Room S.meaning store.old (length terms.now) }
+    ensures { TermMade S.steps store.old [] (items terms.now) store.new result }
 {
     let mut stack = Stack::new();
     for row in terms {

@@ -54,7 +54,7 @@ pub fn measure<K: Kind>(
     commands: &[CommandRow],
     terms: &[TermRow],
 ) -> Result<FormMeasures, Refusal>
-    ensures { result ≡ measure_answer v (decode v kind.ops commands.now terms.now) }
+    ensures { result ≡ measure_answer v (decode v K.kind.ops commands.now terms.now) }
 {
     check::<K>(v, commands, terms)?;
     let form = measure_checked(v, commands);
@@ -80,11 +80,11 @@ pub fn passify<K: Kind>(
     rows: &mut [PassiveRow],
     out: &mut [PassiveTermRow],
 ) -> Result<FormLengths, Refusal>
-    ensures answer { result ≡ passify_answer v (decode v kind.ops commands.now terms.now) (length rows.old) (length out.old) }
-    ensures rows { rows.new ≡ rows_after v (decode v kind.ops commands.now terms.now) result rows.old }
-    ensures terms { out.new ≡ terms_after v (decode v kind.ops commands.now terms.now) result out.old }
+    ensures answer { result ≡ passify_answer v (decode v K.kind.ops commands.now terms.now) (length rows.old) (length out.old) }
+    ensures rows { rows.new ≡ rows_after v (decode v K.kind.ops commands.now terms.now) result rows.old }
+    ensures terms { out.new ≡ terms_after v (decode v K.kind.ops commands.now terms.now) result out.old }
     ensures rules { JointsAsStated }
-    ensures agreement { AgreesWithRuns kind v (decode v kind.ops commands.now terms.now) }
+    ensures agreement { AgreesWithRuns K.kind v (decode v K.kind.ops commands.now terms.now) }
 {
     check::<K>(v, commands, terms)?;
     let form = measure_checked(v, commands);

@@ -11,7 +11,7 @@ use Rattle.formula.specs.Store.{Making, make_and, Meaning, unless, refused_by, f
 use Rattle.register.specs.declared.entries.Entry.{Entry}
 use Rattle.register.specs.Held.{Held, most_entries, entry, entry_at, there, standing}
 use Rattle.register.specs.Histories.{Exchange, new_held, History, Origin, nowhere, routines, origin_at, origins}
-use Rattle.register.specs.Promise.{Faithful, PromiseKept, Goes_on}
+use Rattle.register.specs.Promise.{Faithful, PromiseKept, GoesOn}
 use Rattle.register.proofs.SideBySide.{paired_length, paired_at}
 use Rattle.register.proofs.Routines.{fine_safe, safe_fine, not_fine_wrong}
 use Rattle.register.proofs.Keeping.{Good, Kept, kept_through}
@@ -77,7 +77,7 @@ promise_kept K M steps lawful sound v s E T xs h past = record {
 -- and so it is by further calls, after any history
 pub promise_goes_on : {V : Type 0} {S : Type 0} (K : KindOf V) (M : Meaning V S) (steps : S → Making → Node → S → Type 0)
     (lawful : (s : S) → Lawful K M s) (sound : (s : S) (c : Making) (n : Node) (t : S) → steps s c n t → Makes K M s c n t)
-    (before after : Held S) (xs : List Exchange) → History K M steps before xs after → Goes_on K M steps before xs after
+    (before after : Held S) (xs : List Exchange) → History K M steps before xs after → GoesOn K M steps before xs after
 promise_goes_on K M steps lawful sound before after xs now v s E T past was =
     let whole = history_then K M steps was now in
     (whole, promise_kept K M steps lawful sound v s E T (past ++ xs) after whole)

@@ -56,8 +56,8 @@ module _ {V : Type 0} {S : Type 0} (K : KindOf V) (M : Meaning V S) where
     pub each : (i : ℕ) → i < length h.entries → Faithful v h.store (entry_at h.entries i) (origin_at os i)
 
   -- whatever calls on a new register led to `before`: these go on from there as one history, and each entry of `after` is faithful
-  abbrev pub Goes_on : (S → Making → Node → S → Type 0) → Held S → List Exchange → Held S → Type 0
-  Goes_on steps before xs after =
+  abbrev pub GoesOn : (S → Making → Node → S → Type 0) → Held S → List Exchange → Held S → Type 0
+  GoesOn steps before xs after =
       (v : ℕ) (s : S) (E : List PassiveRow) (T : List PassiveTermRow) (past : List Exchange) → History K M steps (new_held v s E T) past before
       → History K M steps (new_held v s E T) (past ++ xs) after × Promise v after (origins v K.ops (past ++ xs))
 

@@ -11,7 +11,7 @@ use kinds::numbered::{Name, Node};
 use kinds::refusals::Refusal;
 
 fn yes_or_no<K: Kind>(b: bool) -> K
-    ensures { result ≡ yes_or_no kind b }
+    ensures { result ≡ yes_or_no K.kind b }
 {
     if b { K::yes() } else { K::no() }
 }
@@ -49,9 +49,9 @@ impl<K> Evaluator<K> {
 impl<K: Kind> Evaluator<K> {
     // The value of a node in use.
     pub fn value(&self, node: Node) -> Result<K, Refusal>
-        ensures asked { result ≡ value_asked kind self.now node }
-        ensures made { ValuesStand kind }
-        ensures fixing { Fixing SameValues (evaluator_steps kind) }
+        ensures asked { result ≡ value_asked K.kind self.now node }
+        ensures made { ValuesStand K.kind }
+        ensures fixing { Fixing SameValues (evaluator_steps K.kind) }
     {
         if node.0 >= self.count {
             return Err(Refusal::NotInUse);
@@ -65,14 +65,14 @@ impl<K: Kind> Evaluator<K> {
 
     // The values of two nodes in use.
     fn values(&self, p: Node, q: Node) -> Result<(K, K), Refusal>
-        ensures { result ≡ values_asked kind self.now p q }
+        ensures { result ≡ values_asked K.kind self.now p q }
     {
         Ok((self.value(p)?, self.value(q)?))
     }
 
     // Gives the next node this value.
     fn place(&mut self, value: K) -> Result<Node, Refusal>
-        ensures { DoneOrRefused (free_place (evaluator_meaning kind) self.old) (ValuePlaced self.old value) self.old result self.new }
+        ensures { DoneOrRefused (free_place (evaluator_meaning K.kind) self.old) (ValuePlaced self.old value) self.old result self.new }
     {
         if self.count >= self.capacity() {
             return Err(Refusal::Places);
@@ -88,13 +88,13 @@ impl<K: Kind> Evaluator<K> {
 impl<K: Kind> Store for Evaluator<K> {
     type Value = K;
 
-    ghost meaning = { evaluator_meaning K.Kind.kind };
+    ghost meaning = { evaluator_meaning K.kind };
 
-    ghost steps = { evaluator_steps K.Kind.kind };
+    ghost steps = { evaluator_steps K.kind };
 
-    ghost lawful = { λ s. evaluator_lawful K.Kind.kind s };
+    ghost lawful = { λ s. evaluator_lawful K.kind s };
 
-    ghost sound = { λ s c n t step. evaluator_sound K.Kind.kind s c n t step };
+    ghost sound = { λ s c n t step. evaluator_sound K.kind s c n t step };
 
     fn capacity(&self) -> u32 {
         capacity_of(self.values.len() - self.width as usize)

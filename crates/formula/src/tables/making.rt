@@ -42,7 +42,7 @@ impl<K> TableStore<K> {
 impl<K: Kind> TableStore<K> {
     // Gives the next node this row.
     fn place(&mut self, tag: u32, operation: u32, first: u32, second: u32) -> Result<Node, Refusal>
-        ensures { DoneOrRefused (free_place (table_meaning kind) self.old) (RowPlaced self.old (node_row tag operation first second)) self.old result self.new }
+        ensures { DoneOrRefused (free_place (table_meaning K.kind) self.old) (RowPlaced self.old (node_row tag operation first second)) self.old result self.new }
     {
         if self.count >= self.capacity() {
             return Err(Refusal::Places);
@@ -60,7 +60,7 @@ impl<K: Kind> TableStore<K> {
 
     // Gives the next node a row of two nodes.
     fn combine(&mut self, tag: u32, operation: u32, p: Node, q: Node) -> Result<Node, Refusal>
-        ensures { DoneOrRefused (combine_refusal kind self.old p q) (RowPlaced self.old (node_row tag operation p.0 q.0)) self.old result self.new }
+        ensures { DoneOrRefused (combine_refusal K.kind self.old p q) (RowPlaced self.old (node_row tag operation p.0 q.0)) self.old result self.new }
     {
         if p.0 >= self.count || q.0 >= self.count {
             return Err(Refusal::NotInUse);
@@ -72,13 +72,13 @@ impl<K: Kind> TableStore<K> {
 impl<K: Kind> Store for TableStore<K> {
     type Value = K;
 
-    ghost meaning = { table_meaning K.Kind.kind };
+    ghost meaning = { table_meaning K.kind };
 
     ghost steps = { table_steps };
 
-    ghost lawful = { λ s. table_lawful K.Kind.kind s };
+    ghost lawful = { λ s. table_lawful K.kind s };
 
-    ghost sound = { λ s c n t step. table_sound K.Kind.kind s c n t step };
+    ghost sound = { λ s c n t step. table_sound K.kind s c n t step };
 
     fn capacity(&self) -> u32 {
         capacity_of(self.rows.len())

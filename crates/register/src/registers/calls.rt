@@ -96,7 +96,7 @@ impl<S> Register<S> {
 impl<S: Store> Register<S> {
     // Why two entries cannot be joined, as far as the register can tell.
     fn join_refusal(&self, j: u32, k: u32) -> Option<Refusal>
-        ensures { result ≡ join_tests meaning self.now.store (listed self.now.entries) j k None }
+        ensures { result ≡ join_tests S.meaning self.now.store (listed self.now.entries) j k None }
     {
         let all = self.entries.in_use();
         let (j, k) = (j as usize, k as usize);
@@ -124,7 +124,7 @@ impl<S: Store> Register<S> {
         rows: &mut [PassiveRow],
         out: &mut [PassiveTermRow],
     ) -> Result<Filing, Refusal>
-        ensures { Answered Value-as-Kind.kind meaning steps (held self.old rows.old out.old) (file_request commands.now terms.now) (answer_by Filed result) (held self.new rows.new out.new) }
+        ensures { Answered S.Value.kind S.meaning S.steps (held self.old rows.old out.old) (file_request commands.now terms.now) (answer_by Filed result) (held self.new rows.new out.new) }
     {
         let entry = self.entries.in_use().len();
         if entry >= MOST_ENTRIES {
@@ -150,7 +150,7 @@ impl<S: Store> Register<S> {
 
     // Makes the entry whose condition is true where both of two are.
     pub fn join(&mut self, j: u32, k: u32) -> Result<Joining, Refusal>
-        ensures { (E : List PassiveRow) (T : List PassiveTermRow) → Answered Value-as-Kind.kind meaning steps (held self.old E T) (join_request j k) (answer_by Joined result) (held self.new E T) }
+        ensures { (E : List PassiveRow) (T : List PassiveTermRow) → Answered S.Value.kind S.meaning S.steps (held self.old E T) (join_request j k) (answer_by Joined result) (held self.new E T) }
     {
         if let Some(refusal) = self.join_refusal(j, k) {
             return Err(refusal);
@@ -172,7 +172,7 @@ impl<S: Store> Register<S> {
 
     // Strikes an entry: no later call but the register's own history knows it.
     pub fn strike(&mut self, j: u32) -> Result<(), Refusal>
-        ensures { (E : List PassiveRow) (T : List PassiveTermRow) → Answered Value-as-Kind.kind meaning steps (held self.old E T) (strike_request j) (answer_by marking result) (held self.new E T) }
+        ensures { (E : List PassiveRow) (T : List PassiveTermRow) → Answered S.Value.kind S.meaning S.steps (held self.old E T) (strike_request j) (answer_by marking result) (held self.new E T) }
     {
         if let Some(refusal) = self.entries.refusal(j) {
             return Err(refusal);
@@ -183,7 +183,7 @@ impl<S: Store> Register<S> {
 
     // The node, names and rise of an entry.
     pub fn read(&self, j: u32) -> Result<Reading, Refusal>
-        ensures { (E : List PassiveRow) (T : List PassiveTermRow) → Answered Value-as-Kind.kind meaning steps (held self.now E T) (read_request j) (answer_by Shown result) (held self.now E T) }
+        ensures { (E : List PassiveRow) (T : List PassiveTermRow) → Answered S.Value.kind S.meaning S.steps (held self.now E T) (read_request j) (answer_by Shown result) (held self.now E T) }
     {
         if let Some(refusal) = self.entries.refusal(j) {
             return Err(refusal);

@@ -2,7 +2,7 @@
 ghost use Rattle.std.specs.Prelude.{◌≡◌, ℕ, [], ◌∷◌, length, drop};
 ghost use Rattle.register.specs.Answers.{Answered};
 ghost use Rattle.register.specs.Histories.{new_held, origins, History};
-ghost use Rattle.register.specs.Promise.{Promise, Goes_on};
+ghost use Rattle.register.specs.Promise.{Promise, GoesOn};
 ghost use Rattle.register.specs.Views.{held, request_of, exchange, exchanges};
 
 use crate::entries::{Answer, Request};
@@ -18,7 +18,7 @@ impl<S: Store> Register<S> {
         rows: &mut [PassiveRow],
         terms: &mut [PassiveTermRow],
     ) -> Answer
-        ensures { Answered Value-as-Kind.kind meaning steps (held self.old rows.old terms.old) (request_of request.entry) result (held self.new rows.new terms.new) }
+        ensures { Answered S.Value.kind S.meaning S.steps (held self.old rows.old terms.old) (request_of request.entry) result (held self.new rows.new terms.new) }
     {
         match request {
             Request::File(commands, items) => match self.file(commands, items, rows, terms) {
@@ -47,8 +47,8 @@ impl<S: Store> Register<S> {
         rows: &mut [PassiveRow],
         terms: &mut [PassiveTermRow],
     ) -> Answer
-        ensures answered { Answered Value-as-Kind.kind meaning steps (held self.old rows.old terms.old) (request_of request.entry) result (held self.new rows.new terms.new) }
-        ensures promise { Goes_on Value-as-Kind.kind meaning steps (held self.old rows.old terms.old) (exchange request.entry result ∷ []) (held self.new rows.new terms.new) }
+        ensures answered { Answered S.Value.kind S.meaning S.steps (held self.old rows.old terms.old) (request_of request.entry) result (held self.new rows.new terms.new) }
+        ensures promise { GoesOn S.Value.kind S.meaning S.steps (held self.old rows.old terms.old) (exchange request.entry result ∷ []) (held self.new rows.new terms.new) }
     {
         self.perform(request, rows, terms)
     }
@@ -61,8 +61,8 @@ impl<S: Store> Register<S> {
         terms: &mut [PassiveTermRow],
         answers: &mut [Answer],
     )
-        ensures history { History Value-as-Kind.kind meaning steps (held self.old rows.old terms.old) (exchanges requests.now answers.new) (held self.new rows.new terms.new) }
-        ensures promise { Goes_on Value-as-Kind.kind meaning steps (held self.old rows.old terms.old) (exchanges requests.now answers.new) (held self.new rows.new terms.new) }
+        ensures history { History S.Value.kind S.meaning S.steps (held self.old rows.old terms.old) (exchanges requests.now answers.new) (held self.new rows.new terms.new) }
+        ensures promise { GoesOn S.Value.kind S.meaning S.steps (held self.old rows.old terms.old) (exchanges requests.now answers.new) (held self.new rows.new terms.new) }
         ensures rest { drop (length requests.now) answers.new ≡ drop (length requests.now) answers.old }
     {
         let count = if requests.len() < answers.len() {
@@ -85,8 +85,8 @@ pub fn replay<S: Store>(
     terms: &mut [PassiveTermRow],
     answers: &mut [Answer],
 ) -> Register<S>
-    ensures history { History Value-as-Kind.kind meaning steps (new_held v store rows.old terms.old) (exchanges requests.now answers.new) (held result rows.new terms.new) }
-    ensures promise { Promise Value-as-Kind.kind meaning v (held result rows.new terms.new) (origins v Value-as-Kind.kind.ops (exchanges requests.now answers.new)) }
+    ensures history { History S.Value.kind S.meaning S.steps (new_held v store rows.old terms.old) (exchanges requests.now answers.new) (held result rows.new terms.new) }
+    ensures promise { Promise S.Value.kind S.meaning v (held result rows.new terms.new) (origins v S.Value.kind.ops (exchanges requests.now answers.new)) }
     ensures rest { drop (length requests.now) answers.new ≡ drop (length requests.now) answers.old }
 {
     let mut register = Register::new(store, v);

@@ -11,14 +11,14 @@ below c = room _ _ _ _ _ _ _ _ c.loop-i-test.true c.loop-i.invariant c.if-a-i.tr
 pub loop-i-init : goal.loop-i-init
 loop-i-init c = begun c.args.v c.args.a.now.names c.args.b.now.names c.args.next
 
-pub overflow-cast-both : goal.overflow-cast-both
-overflow-cast-both c = omega (arith, below (goal.at.overflow-cast-both c).Then-a-i, c.requires.room)
+pub overflow_cast-both : goal.overflow_cast-both
+overflow_cast-both c = omega (arith, below (goal.at.overflow_cast-both c).Then-a-i, c.requires.room)
 
-pub overflow-add-k : goal.overflow-add-k
-overflow-add-k c = omega (arith, below (goal.at.overflow-add-k c).Then-a-i, c.requires.room)
+pub overflow_add-k : goal.overflow_add-k
+overflow_add-k c = omega (arith, below (goal.at.overflow_add-k c).Then-a-i, c.requires.room)
 
-pub overflow-add-renamed : goal.overflow-add-renamed
-overflow-add-renamed c = omega (arith, c.loop-i.invariant.few)
+pub overflow_add-renamed : goal.overflow_add-renamed
+overflow_add-renamed c = omega (arith, c.loop-i.invariant.few)
 
 -- what a turn leaves
 After : goal.Joined-a-i → NameMap → ℕ → ℕ → Type 0

@@ -9,8 +9,8 @@ merge-n-requires c =
     record {
       few = c.requires.few;
       room =
-          n_room c.args.v c.args.left c.args.right c.left-exits-out.result j (c.left-exits-out.ensures.normal j e c.args.v)
-          (c.left-exits-out.ensures.raised j e c.args.v) c.requires.fits.2;
+          n_room c.args.v c.args.left c.args.right c.left_exits-out.result j (c.left_exits-out.ensures.normal j e c.args.v)
+          (c.left_exits-out.ensures.raised j e c.args.v) c.requires.fits.2;
     }
 
 pub merge-x-requires : goal.merge-x-requires
@@ -20,6 +20,6 @@ merge-x-requires c =
     record {
       few = c.requires.few;
       room =
-          x_room c.args.v c.args.left c.args.right c.left-exits-out.result j (c.left-exits-out.ensures.normal j e c.args.v)
-          (c.left-exits-out.ensures.raised j e c.args.v) c.merge-n.result c.merge-n.ensures c.requires.fits.2;
+          x_room c.args.v c.args.left c.args.right c.left_exits-out.result j (c.left_exits-out.ensures.normal j e c.args.v)
+          (c.left_exits-out.ensures.raised j e c.args.v) c.merge-n.result c.merge-n.ensures c.requires.fits.2;
     }

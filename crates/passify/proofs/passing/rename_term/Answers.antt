@@ -12,10 +12,10 @@ loop-row-init c = (sym (put_nil c.args.out.now c.args.at), sym (add-zero c.args.
 
 pub loop-row-preserved : goal.loop-row-preserved
 loop-row-preserved c = (
-  ap (λ n. set c.loop-row.out n c.rename-row.result) c.loop-row.invariant.1
+  ap (λ n. set c.loop-row.out n c.rename_row.result) c.loop-row.invariant.1
       ∙ put_turn (λ r. term_row (renamed (map_of c.args.v c.args.m.now) (item r))) c.args.out.now c.args.at c.loop-row.row-index
-      c.args.rows.now (record { tag = 0; number = 0 }) c.loop-row-test.true (omega arith) c.loop-row.out c.rename-row.result c.loop-row.invariant.0
-      c.rename-row.ensures,
+      c.args.rows.now (record { tag = 0; number = 0 }) c.loop-row-test.true (omega arith) c.loop-row.out c.rename_row.result c.loop-row.invariant.0
+      c.rename_row.ensures,
   omega (arith, c.loop-row.invariant.1),
 )
 

@@ -7,4 +7,4 @@ returns-then-row-eq3 c v ts m =
 
 pub returns-then-row-lt3 : goal.returns-then-row-lt3
 returns-then-row-lt3 c v ts m =
-    test_row c.args.row c.args.next c.args.from c.term-row-then-row-lt3.result v ts m c.if-row-lt3.true c.term-row-then-row-lt3.ensures
+    test_row c.args.row c.args.next c.args.from c.term_row-then-row-lt3.result v ts m c.if-row-lt3.true c.term_row-then-row-lt3.ensures

@@ -11,24 +11,24 @@ below c = names_room _ _ _ _ _ _ _ _ _ _ _ _ c.loop-i-test.true c.loop-i.invaria
 pub loop-i-init : goal.loop-i-init
 loop-i-init c = begun _ _ _ _ _ _ _
 
-pub overflow-cast-k : goal.overflow-cast-k
-overflow-cast-k c = omega (arith, below (goal.at.overflow-cast-k c).Then-a-i, c.requires.names)
+pub overflow_cast-k : goal.overflow_cast-k
+overflow_cast-k c = omega (arith, below (goal.at.overflow_cast-k c).Then-a-i, c.requires.names)
 
-pub write-next-let-at-requires : goal.write-next-let-at-requires
-write-next-let-at-requires c = record {
+pub write_next_let-at-requires : goal.write_next_let-at-requires
+write_next_let-at-requires c = record {
   behind = behind _ _ _ _ _ _ _ _ _ _ _ _ c.loop-i-test.true c.loop-i.invariant;
   room = let_room _ _ _ _ _ _ _ _ _ _ _ _ c.loop-i-test.true c.loop-i.invariant c.if-a-i.true c.requires.room;
 }
 
-pub overflow-add-k : goal.overflow-add-k
-overflow-add-k c = omega (arith, below (goal.at.overflow-add-k c).Then-a-i, c.requires.names)
+pub overflow_add-k : goal.overflow_add-k
+overflow_add-k c = omega (arith, below (goal.at.overflow_add-k c).Then-a-i, c.requires.names)
 
 pub loop-i-preserved : goal.loop-i-preserved
 loop-i-preserved c =
     elim c.if-a-i.branch [
       | then-a-i w ↦ moved _ _ _ _ _ _ _ _ _ _ _ _ _ _ _ _ w.k-is w.at-is w.rows-is w.terms-is
-          (apart _ _ _ _ _ _ _ _ _ _ _ _ c.loop-i-test.true c.loop-i.invariant w.if-a-i.true w.write-next-let-at.result _ _
-          (omega arith) (omega arith) w.write-next-let-at.ensures)
+          (apart _ _ _ _ _ _ _ _ _ _ _ _ c.loop-i-test.true c.loop-i.invariant w.if-a-i.true w.write_next_let-at.result _ _
+          (omega arith) (omega arith) w.write_next_let-at.ensures)
       | else-a-i w ↦ moved _ _ _ _ _ _ _ _ _ _ _ _ _ _ _ _ w.k-is w.at-is w.rows-is w.terms-is
           (same _ _ _ _ _ _ _ _ _ _ _ _ c.loop-i-test.true c.loop-i.invariant w.if-a-i.false)
     ]

@@ -12,4 +12,4 @@ returns-else-at-start c =
     wrote_as
     (ap (λ r. this then one_row r) c.joint_row.ensures
     ∙ ap (λ b. cond b this (this then one_row (joint_row 6 (c.args.at.row - 1)))) (sym apart))
-    (wrote_then c.write-let-after.ensures (c.write-row.ensures c.write-let-after.new.terms) (omega arith) (omega arith))
+    (wrote_then c.write_let-after.ensures (c.write_row.ensures c.write_let-after.new.terms) (omega arith) (omega arith))

@@ -7,8 +7,8 @@ use Rattle.passify.proofs.Wrotes.{room_first}
 use Rattle.passify.proofs.Behind.{guard_room, side_written}
 use Rattle.passify.proofs.writing.write_side.Goals as goal
 
-pub write-tail-tail-requires : goal.write-tail-tail-requires
-write-tail-tail-requires c =
+pub write_tail-tail-requires : goal.write_tail-tail-requires
+write_tail-tail-requires c =
     let n = renamings c.args.v c.args.na c.args.nb c.args.next in
     let k = next_after c.args.v c.args.na c.args.nb c.args.next in
     let x = renamings c.args.v c.args.xa c.args.xb k in
@@ -20,17 +20,17 @@ write-tail-tail-requires c =
           room_first (tail_piece n c.args.at.row c.args.at.term) (guard_piece x (c.args.at.row + 2 * length n) (c.args.at.term + length n)) c.requires.room;
     }
 
-pub write-guard-requires : goal.write-guard-requires
-write-guard-requires c = record {
+pub write_guard-requires : goal.write_guard-requires
+write_guard-requires c = record {
   few = c.requires.few;
-  names = omega (arith, c.requires.names, ap (next_after c.args.v c.args.xa c.args.xb) c.write-tail-tail.ensures.next);
-  behind = omega (arith, c.requires.behind, c.write-tail-tail.ensures.wrote.row_end);
+  names = omega (arith, c.requires.names, ap (next_after c.args.v c.args.xa c.args.xb) c.write_tail-tail.ensures.next);
+  behind = omega (arith, c.requires.behind, c.write_tail-tail.ensures.wrote.row_end);
   room =
-      guard_room c.args.v c.args.na c.args.nb c.args.xa c.args.xb c.args.next _ _ _ _ _ _ _ c.write-tail-tail.ensures.wrote
-      c.write-tail-tail.ensures.next c.requires.room;
+      guard_room c.args.v c.args.na c.args.nb c.args.xa c.args.xb c.args.next _ _ _ _ _ _ _ c.write_tail-tail.ensures.wrote
+      c.write_tail-tail.ensures.next c.requires.room;
 }
 
 pub returns : goal.returns
 returns c =
-    side_written c.args.v c.args.na c.args.nb c.args.xa c.args.xb c.args.next _ _ _ _ _ _ _ c.write-tail-tail.ensures.wrote
-    c.write-tail-tail.ensures.next _ _ _ c.write-guard.ensures.wrote (omega (arith, c.requires.room.rows_room)) (omega (arith, c.requires.room.terms_room))
+    side_written c.args.v c.args.na c.args.nb c.args.xa c.args.xb c.args.next _ _ _ _ _ _ _ c.write_tail-tail.ensures.wrote
+    c.write_tail-tail.ensures.next _ _ _ c.write_guard.ensures.wrote (omega (arith, c.requires.room.rows_room)) (omega (arith, c.requires.room.terms_room))

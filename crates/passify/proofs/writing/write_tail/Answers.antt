@@ -5,24 +5,24 @@ use Rattle.passify.proofs.Wrotes.{wrote_as}
 use Rattle.passify.proofs.Behind.{tail_lets_room, none_tail, tail_row_room, some_tail}
 use Rattle.passify.proofs.writing.write_tail.Goals as goal
 
-pub write-renaming-lets-requires : goal.write-renaming-lets-requires
-write-renaming-lets-requires c = record { few = c.requires.few; names = c.requires.names; room = tail_lets_room _ _ _ (renamings c.args.v c.args.a c.args.b c.args.next) c.requires.room }
+pub write_renaming-lets-requires : goal.write_renaming-lets-requires
+write_renaming-lets-requires c = record { few = c.requires.few; names = c.requires.names; room = tail_lets_room _ _ _ (renamings c.args.v c.args.a c.args.b c.args.next) c.requires.room }
 
 pub returns-then-lets-at : goal.returns-then-lets-at
 returns-then-lets-at c = record {
-  wrote = none_tail _ _ _ _ _ _ _ c.write-renaming-lets.ensures.wrote c.if-lets-at.true;
-  next = c.write-renaming-lets.ensures.next;
+  wrote = none_tail _ _ _ _ _ _ _ c.write_renaming-lets.ensures.wrote c.if-lets-at.true;
+  next = c.write_renaming-lets.ensures.next;
 }
 
-pub write-row-requires : goal.write-row-requires
-write-row-requires c =
-    let r = tail_row_room _ _ _ _ _ _ _ c.write-renaming-lets.ensures.wrote c.if-lets-at.false c.requires.room in
+pub write_row-requires : goal.write_row-requires
+write_row-requires c =
+    let r = tail_row_room _ _ _ _ _ _ _ c.write_renaming-lets.ensures.wrote c.if-lets-at.false c.requires.room in
     record { within = omega (arith, r.rows_room); few = omega (arith, r.rows_few) }
 
 pub returns : goal.returns
 returns c = record {
   wrote =
-      some_tail _ _ _ _ _ _ _ c.write-renaming-lets.ensures.wrote c.if-lets-at.false _ _
-      (wrote_as (ap one_row c.joint_row.ensures) (c.write-row.ensures _)) (omega (arith, c.requires.room.rows_room)) (omega (arith, c.requires.room.terms_room));
-  next = c.write-renaming-lets.ensures.next;
+      some_tail _ _ _ _ _ _ _ c.write_renaming-lets.ensures.wrote c.if-lets-at.false _ _
+      (wrote_as (ap one_row c.joint_row.ensures) (c.write_row.ensures _)) (omega (arith, c.requires.room.rows_room)) (omega (arith, c.requires.room.terms_room));
+  next = c.write_renaming-lets.ensures.next;
 }

@@ -1,4 +1,4 @@
 use Rattle.walkthrough.proofs.text.+print_command.Given as goal
 
-abbrev pub decreases-print-command : goal.decreases-print-command
-decreases-print-command l = l.at
+abbrev pub decreases-print_command : goal.decreases-print_command
+decreases-print_command l = l.at
