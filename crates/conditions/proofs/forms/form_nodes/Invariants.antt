@@ -8,7 +8,7 @@ use Rattle.conditions.proofs.forms.form_nodes.Given as goal
 -- what is left to make makes the form
 abbrev pub invariant-loop-i : goal.invariant-loop-i
 invariant-loop-i g l =
-    let K = g.Value.Kind.kind in
+    let K = g.S.Value.Kind.kind in
     let M = g.S.Store.meaning in
     let steps = g.S.Store.steps in
     let left = drop l.i l.rows in

@@ -12,14 +12,14 @@ loop-row-init g c =
     let none = c.new-stack.ensures.waits in
     let low = c.new-stack.ensures.height in (
       λ t n h. subst (λ ns. TermMade g.S.Store.steps c.args.store.now ns (items c.args.terms.now) t n) none h,
-      subst (λ w. WorkableFrom g.Value.Kind.kind.ops (g.S.Store.meaning.width c.args.store.now) w (items c.args.terms.now)) (sym low) c.requires.workable,
+      subst (λ w. WorkableFrom g.S.Value.Kind.kind.ops (g.S.Store.meaning.width c.args.store.now) w (items c.args.terms.now)) (sym low) c.requires.workable,
       omega (arith, low),
       subst (NodesUsed g.S.Store.meaning c.args.store.now) (sym none) tt,
       grown_none g.S.Store.meaning c.args.store.now,
     )
 
-pub row-node-requires : goal.row-node-requires
-row-node-requires g c =
+pub row_node-requires : goal.row_node-requires
+row_node-requires g c =
     let inv = c.loop-row.invariant in
     record {
       workable = (workable_more _ _ c.args.terms.now c.loop-row.row-index _ c.loop-row-test.true inv.1).0;
@@ -39,15 +39,15 @@ loop-row-preserved g c =
     let inv = c.loop-row.invariant in
     let rows = c.args.terms.now in
     let i = c.loop-row.row-index in
-    let K = g.Value.Kind.kind in
+    let K = g.S.Value.Kind.kind in
     let M = g.S.Store.meaning in
     let steps = g.S.Store.steps in
-    let made = c.row-node.ensures.made in
-    let height = c.row-node.ensures.height in
+    let made = c.row_node.ensures.made in
+    let height = c.row_node.ensures.height in
     let more = item_grown K M steps g.met.S.Store.sound made in
     let fits = workable_more K.ops (M.width c.loop-row.store) rows i c.loop-row.stack.height c.loop-row-test.true inv.1 in (
       λ t n h. inv.0 t n (made_more steps rows i c.loop-row-test.true made h),
-      subst (λ w. WorkableFrom K.ops (M.width c.row-node.new.store) w (items (drop (i + 1) rows))) (sym height)
+      subst (λ w. WorkableFrom K.ops (M.width c.row_node.new.store) w (items (drop (i + 1) rows))) (sym height)
           (subst (λ w. WorkableFrom K.ops w (waiting_then (item (at rows i)) c.loop-row.stack.height) (items (drop (i + 1) rows))) (sym more.width_same) fits.1),
       subst (λ w. w ≤ 16) (sym height) (waiting_few K.ops (M.width c.loop-row.store) c.loop-row.stack.height (item (at rows i)) fits.0 inv.2),
       item_used K M steps g.met.S.Store.sound made inv.3,
@@ -59,7 +59,7 @@ returns g c =
     let inv = c.loop-row.invariant in
     let rows = c.args.terms.now in
     let i = c.loop-row.row-index in
-    let K = g.Value.Kind.kind in
+    let K = g.S.Value.Kind.kind in
     let M = g.S.Store.meaning in
     let one = workable_none K.ops (M.width c.loop-row.store) rows i c.loop-row.stack.height c.loop-row-test.false inv.1 in
     let low : c.pop.new.self.height ≡ 0 = omega (arith, one, c.pop.ensures.height) in

@@ -14,7 +14,7 @@ invariant-loop-row g l =
     let steps = g.S.Store.steps in
     let left = items (drop l.row-index l.terms) in
     ((t : g.row.S.Denot) (n : Node) → TermMade steps l.store (waiting l.stack) left t n → TermMade steps l.initial.store [] (items l.terms) t n)
-    × WorkableFrom g.Value.Kind.kind.ops (M.width l.store) l.stack.height left
+    × WorkableFrom g.S.Value.Kind.kind.ops (M.width l.store) l.stack.height left
     × (l.stack.height ≤ 16)
     × NodesUsed M l.store (waiting l.stack)
     × Grown M l.initial.store l.row-index l.store

@@ -19,7 +19,7 @@ loop-i-preserved g c =
     elim c.if-requests-answers.branch [ then-requests-answers w ↦ omega (arith, w.count-is, w.if-requests-answers.true) | else-requests-answers w ↦ omega (arith, w.count-is, w.if-requests-answers.false) ] in
     let l : i < length qs = omega (arith, c.loop-i-test.true) in
     let k : i < length xs = omega (arith, c.loop-i-test.true, c.loop-i.auto.answers) in (
-      history_more g.Value.Kind.kind g.S.Store.meaning g.S.Store.steps i qs xs _ c.perform.result l k c.loop-i.invariant.0 c.perform.ensures,
+      history_more g.S.Value.Kind.kind g.S.Store.meaning g.S.Store.steps i qs xs _ c.perform.result l k c.loop-i.invariant.0 c.perform.ensures,
       drop-set-lt (length qs) xs i c.perform.result l ∙ c.loop-i.invariant.1,
     )
 
@@ -30,7 +30,7 @@ returns g c =
     let few : c.if-requests-answers.count ≡ min (length qs) (length c.args.answers.now) =
     elim c.if-requests-answers.branch [ then-requests-answers w ↦ omega (arith, w.count-is, w.if-requests-answers.true) | else-requests-answers w ↦ omega (arith, w.count-is, w.if-requests-answers.false) ] in
     let all : min (length qs) (length xs) ≤ c.loop-i.i = omega (arith, c.loop-i-test.false, c.loop-i.auto.answers) in
-    let K = g.Value.Kind.kind in
+    let K = g.S.Value.Kind.kind in
     let M = g.S.Store.meaning in
     let steps = g.S.Store.steps in
     let before = held c.args.self.now c.args.rows.now c.args.terms.now in

@@ -12,5 +12,5 @@ mark-requires g c = record { there = entry_there c.args.self.now.entries c.args.
 
 pub returns : goal.returns
 returns g c E T =
-    struck_by g.Value.Kind.kind g.S.Store.meaning g.S.Store.steps (held c.args.self.now E T) c.args.j _ (sym c.in-default.ensures)
+    struck_by g.S.Value.Kind.kind g.S.Store.meaning g.S.Store.steps (held c.args.self.now E T) c.args.j _ (sym c.in-default.ensures)
     c.mark.ensures.listed

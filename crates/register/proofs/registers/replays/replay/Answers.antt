@@ -6,7 +6,7 @@ use Rattle.register.proofs.registers.replays.replay.Goals as goal
 
 pub returns : goal.returns
 returns g c =
-    let K = g.Value.Kind.kind in
+    let K = g.S.Value.Kind.kind in
     let M = g.S.Store.meaning in
     let steps = g.S.Store.steps in
     let E = c.args.rows.now in
