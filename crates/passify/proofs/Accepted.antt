@@ -1,24 +1,22 @@
 -- What is known of the rows of an accepted routine.
-use Rattle.std.proofs.Common.{◌≡◌, ℕ, ◌+◌, ◌-◌, ◌*◌, ◌^◌, ◌<◌, ◌≤◌, Bool, true, false, cond, ◌&&◌, leb, List, [], ◌∷◌, length, Some, Ok, Err, Result, sym, refl, ap, ◌∙◌, subst, mul-le-mul, arith, length-append}
+use Rattle.std.proofs.Common.{◌≡◌, ℕ, ◌+◌, ◌-◌, ◌*◌, ◌^◌, ◌<◌, ◌≤◌, Bool, true, false, cond, List, [], length, Some, Ok, Err, sym, refl, ap, ◌∙◌, subst, mul-le-mul, arith, length-append}
 use Rattle.std.proofs.lemmas.Bool.Decides.{nat_tests}
-use Rattle.kinds.specs.declared.refusals.Refusal.{Refusal}
 use Rattle.kinds.specs.declared.refusals.Refusal.TheVariants.{Limits}
 use Rattle.routine.specs.declared.rows.TermRow.{TermRow}
 use Rattle.routine.specs.declared.rows.CommandRow.{CommandRow}
-use Rattle.routine.specs.Limits.{most_variables, most_commands, most_terms}
-use Rattle.routine.specs.Commands.{Single, assert, assume, assign, skip, raise, Joint, sequence, choice, catch, Command, single, join, size, single_places, places}
+use Rattle.routine.specs.Commands.{Single, assert, assume, assign, skip, raise, sequence, choice, catch, Command, single, join, size, single_places, places}
 use Rattle.routine.specs.Decoding.{rows_from, within_limits, decode}
 use Rattle.routine.specs.Standing.{Fields, row, EndsAt, Stands, Proper}
 use Rattle.routine.proofs.Soundness.{decoding_sound}
-use Rattle.passive.specs.Passive.{PassiveSingle, p_assert, p_assume, p_let, p_skip, p_raise, p_stop, Passive, p_single, p_join, names_from, passive_form}
+use Rattle.passive.specs.Passive.{p_assert, p_assume, p_let, p_skip, p_raise, p_stop, Passive, p_single, p_join, names_from, passive_form}
 use Rattle.passive.specs.Outcomes.{nodes}
 use Rattle.passive.specs.Layout.{rows, terms}
 use Rattle.passive.specs.Agreement.{Bounded}
 use Rattle.passive.proofs.Bounding.{bounded}
 use Rattle.passify.specs.declared.maps.NameMap.{NameMap}
 use Rattle.passify.specs.declared.measuring.Measured.{Measured}
-use Rattle.passify.specs.Names.{map_of, names_of}
-use Rattle.passify.specs.Measuring.{Sizes, sizes, measured, Fits, sizes_of, Measurable, Measures}
+use Rattle.passify.specs.Names.{map_of}
+use Rattle.passify.specs.Measuring.{sizes, measured, Fits, Measurable, Measures}
 use Rattle.passify.specs.Checked.{Checked, FormMeasured}
 use Rattle.passify.proofs.Sizes.{measured_is}
 use Rattle.passify.proofs.Singles.{term_within, term_long}

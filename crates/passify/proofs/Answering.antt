@@ -1,5 +1,5 @@
 -- What the calls answer of a routine that was decoded and measured.
-use Rattle.std.proofs.Common.{◌≡◌, ℕ, ◌+◌, ◌-◌, ◌^◌, ◌<◌, ◌≤◌, Bool, true, false, cond, ◌&&◌, leb, List, length, Some, Ok, Err, Result, sym, refl, ap, ◌∙◌, subst, arith}
+use Rattle.std.proofs.Common.{◌≡◌, ℕ, ◌-◌, ◌<◌, ◌≤◌, Bool, true, false, cond, ◌&&◌, leb, List, length, Some, Ok, Err, Result, sym, refl, ap, ◌∙◌, subst, arith}
 use Rattle.std.proofs.lemmas.Bool.Decides.{nat_tests}
 use Rattle.kinds.specs.Kind.{KindOf}
 use Rattle.kinds.specs.declared.refusals.Refusal.{Refusal}
@@ -23,7 +23,6 @@ use Rattle.passify.specs.Measuring.{Sizes, sizes, Fits, sizes_of}
 use Rattle.passify.specs.Pieces.{form_piece, Wrote, Room}
 use Rattle.passify.specs.Writing.{Writable, Written}
 use Rattle.passify.specs.Calls.{most_names, form_lengths, passify_answer, rows_after, terms_after, AgreesWithRuns}
-use Rattle.passify.specs.Checked.{FormMeasured}
 use Rattle.passify.proofs.Parts.{length_layout, length_term_rows}
 use Rattle.passify.proofs.Accepted.{stands, proper, bounds, form_fits, start_is}
 

@@ -1,13 +1,12 @@
 -- What tail and guard put behind a part, from the lets on.
 use Rattle.std.proofs.Common.{◌≡◌, ℕ, ◌+◌, ◌-◌, ◌*◌, ◌^◌, ◌<◌, ◌≤◌, List, [], ◌∷◌, ◌++◌, length, Some, None, Option, sym, refl, ap, ◌∙◌, append_assoc, append-nil, arith}
-use Rattle.passive.specs.Passive.{Renamed, merge}
+use Rattle.passive.specs.Passive.{Renamed}
 use Rattle.passive.specs.Layout.{plain_row, joint_row}
 use Rattle.passive.specs.declared.rows.PassiveTermRow.{PassiveTermRow}
 use Rattle.passive.specs.declared.rows.PassiveRow.{PassiveRow}
 use Rattle.passify.specs.declared.maps.NameMap.{NameMap}
 use Rattle.passify.specs.declared.writing.Place.{Place}
-use Rattle.passify.specs.Names.{names_of}
-use Rattle.passify.specs.Pieces.{Piece, ◌then◌, one_row, old_terms, lets, tail_rows, guard_piece_rows, lets_piece, tail_piece, guard_piece, Wrote, Room}
+use Rattle.passify.specs.Pieces.{Piece, ◌then◌, one_row, old_terms, lets, tail_rows, lets_piece, tail_piece, guard_piece, Wrote, Room}
 use Rattle.passify.specs.Writing.{renamings, next_after, side}
 use Rattle.passify.proofs.Parts.{length_old_terms, length_lets, length_tail_rows}
 use Rattle.passify.proofs.Wrotes.{wrote_none, wrote_then, wrote_as, room_as, room_first, room_second}

@@ -1,5 +1,5 @@
 -- A joined command in the tables: its parts, each with its renamings, and the row that joins them.
-use Rattle.std.proofs.Common.{◌≡◌, ℕ, ◌+◌, ◌-◌, ◌^◌, ◌<◌, ◌≤◌, List, length, sym, refl, ap, ◌∙◌, subst, arith}
+use Rattle.std.proofs.Common.{◌≡◌, ℕ, ◌+◌, ◌-◌, ◌^◌, ◌<◌, ◌≤◌, List, length, sym, refl, ap, ◌∙◌, arith}
 use Rattle.routine.specs.Commands.{Joint}
 use Rattle.routine.specs.Standing.{joint_tag}
 use Rattle.passive.specs.Passive.{Passive, p_single, p_join, Merge, merge, Passified, leaves_normal, leaves_raised, joined}

@@ -1,5 +1,5 @@
 -- A joined command, measured from its parts.
-use Rattle.std.proofs.Common.{◌≡◌, ℕ, ◌+◌, ◌*◌, ◌^◌, ◌<◌, ◌≤◌, length, sym, refl, ap, ◌∙◌, arith}
+use Rattle.std.proofs.Common.{◌≡◌, ℕ, ◌+◌, ◌*◌, ◌^◌, ◌<◌, ◌≤◌, length, ap, ◌∙◌, arith}
 use Rattle.routine.specs.Commands.{Joint}
 use Rattle.passive.specs.Passive.{Names, Merge, merge, leaves_normal, leaves_raised}
 use Rattle.passive.specs.Outcomes.{joint_nodes}

@@ -1,10 +1,10 @@
 -- The command that ends at a row: a single one, or two parts joined; and what measuring the parts says of the whole.
-use Rattle.std.proofs.Common.{◌≡◌, ℕ, ◌+◌, ◌-◌, ◌<◌, ◌≤◌, List, length, get_or, Some, None, Option, sym, refl, ap, ◌∙◌, subst, arith}
+use Rattle.std.proofs.Common.{◌≡◌, ℕ, ◌-◌, ◌<◌, ◌≤◌, List, length, get_or, Some, None, Option, sym, refl, ap, ◌∙◌, subst, arith}
 use Rattle.routine.specs.declared.rows.TermRow.{TermRow}
 use Rattle.routine.specs.declared.rows.CommandRow.{CommandRow}
 use Rattle.routine.specs.Commands.{Single, assert, assume, assign, skip, raise, Joint, sequence, choice, catch, Command, single, join}
-use Rattle.routine.specs.Standing.{no_row, single_tag, joint_tag, Fields, row, EndsAt}
-use Rattle.passive.specs.Passive.{Names, passify_single, entry}
+use Rattle.routine.specs.Standing.{no_row, single_tag, joint_tag, Fields, EndsAt}
+use Rattle.passive.specs.Passive.{passify_single, entry}
 use Rattle.passify.specs.declared.maps.NameMap.{NameMap}
 use Rattle.passify.specs.declared.measuring.Measured.{Measured}
 use Rattle.passify.specs.Names.{map_of, names_of}

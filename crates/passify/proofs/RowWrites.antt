@@ -1,9 +1,8 @@
 -- What writing the parts of the command that ends at a row asks, and what it says of the whole.
-use Rattle.std.proofs.Common.{◌≡◌, ℕ, ◌+◌, ◌-◌, ◌^◌, ◌<◌, ◌≤◌, List, length, Some, None, Option, sym, refl, ap, ◌∙◌, subst, arith}
+use Rattle.std.proofs.Common.{◌≡◌, ℕ, ◌+◌, ◌-◌, ◌^◌, ◌<◌, ◌≤◌, List, length, Some, None, Option, sym, ap, ◌∙◌, subst, arith}
 use Rattle.routine.specs.declared.rows.TermRow.{TermRow}
 use Rattle.routine.specs.declared.rows.CommandRow.{CommandRow}
 use Rattle.routine.specs.Commands.{Joint, Command, single, join}
-use Rattle.routine.specs.Standing.{joint_tag, EndsAt}
 use Rattle.passive.specs.Passive.{Passified, entry, leaves_normal, leaves_raised, joined, passify_single, passify}
 use Rattle.passive.specs.Layout.{joint_row, plain_row}
 use Rattle.passive.specs.declared.rows.PassiveTermRow.{PassiveTermRow}
@@ -14,11 +13,10 @@ use Rattle.passify.specs.declared.measuring.Leaving.{Leaving}
 use Rattle.passify.specs.declared.writing.Place.{Place}
 use Rattle.passify.specs.declared.passing.Passed.{Passed}
 use Rattle.passify.specs.Names.{map_of, names_of}
-use Rattle.passify.specs.Measuring.{Sizes, sizes, joined_sizes, measured, Fits, sizes_of, SomeSingle, AtSingle, Measurable, Measures, AtJoint, SomeJoint}
+use Rattle.passify.specs.Measuring.{Sizes, sizes, joined_sizes, measured, Fits, sizes_of, SomeSingle, AtSingle, Measurable, Measures, AtJoint}
 use Rattle.passify.specs.Pieces.{Piece, one_row, form_piece, Wrote, Room}
 use Rattle.passify.specs.Writing.{next_after, side, single_piece, SingleWritable, command_piece, Writable, Written}
 use Rattle.passify.proofs.Sizes.{sizes_joined, measured_is}
-use Rattle.passify.proofs.Wrotes.{wrote_as, room_as}
 use Rattle.passify.proofs.RowParts.{at, Parts, parts, alone, single_measured, fit_both, right_measurable, right_is as parts-right, joined_measures}
 use Rattle.passify.proofs.JoinPieces.{left_names, right_names, first_room, left_behind, left_room, middle_behind, second_room, right_behind, right_room, last_room, whole_written}
 

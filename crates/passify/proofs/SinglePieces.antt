@@ -6,20 +6,19 @@ use Rattle.routine.specs.declared.rows.TermRow.{TermRow}
 use Rattle.routine.specs.declared.rows.CommandRow.{CommandRow}
 use Rattle.routine.specs.Commands.{Single, assert, assume, assign, skip, raise}
 use Rattle.routine.specs.Decoding.{item}
-use Rattle.routine.specs.Standing.{single_tag, Fields}
 use Rattle.passive.specs.Passive.{name, rename, passify_single}
-use Rattle.passive.specs.Layout.{term_row, term_rows, passive_row, joint_row, rows, layout, put}
+use Rattle.passive.specs.Layout.{term_row, term_rows, passive_row, rows, layout, put}
 use Rattle.passive.specs.declared.rows.PassiveTermRow.{PassiveTermRow}
 use Rattle.passive.specs.declared.rows.PassiveRow.{PassiveRow}
 use Rattle.passify.specs.declared.maps.NameMap.{NameMap}
 use Rattle.passify.specs.declared.writing.Place.{Place}
 use Rattle.passify.specs.Names.{map_of}
 use Rattle.passify.specs.Measuring.{AtSingle, SomeSingle}
-use Rattle.passify.specs.Pieces.{Wrote, Room}
+use Rattle.passify.specs.Pieces.{Wrote}
 use Rattle.passify.specs.Writing.{passive_terms, TermRoom, TermWritten, single_piece, SingleWritable}
 use Rattle.passify.proofs.Parts.{length_layout}
 use Rattle.passify.proofs.Putting.{put_nil, set_put}
-use Rattle.passify.proofs.Singles.{term_within, term_long, renamed_long}
+use Rattle.passify.proofs.Singles.{term_within, renamed_long}
 
 -- a row without a term
 pub no_term :

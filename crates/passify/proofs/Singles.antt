@@ -1,14 +1,14 @@
 -- A single command: what its row says of its passive form.
-use Rattle.std.proofs.Common.{◌≡◌, ℕ, ◌+◌, ◌^◌, ◌<◌, ◌≤◌, Bool, true, leb, List, map, length, get_or, take, drop, set, Some, None, sym, refl, ap, ◌∙◌, subst, arith, length-drop, length-take-le}
+use Rattle.std.proofs.Common.{◌≡◌, ℕ, ◌+◌, ◌^◌, ◌<◌, ◌≤◌, leb, List, length, drop, set, Some, None, sym, ap, ◌∙◌, arith, length-drop, length-take-le}
 use Rattle.std.proofs.lemmas.List.{length-map}
 use Rattle.std.proofs.lemmas.Bool.Decides.{nat_tests}
 use Rattle.kinds.specs.declared.numbered.Variable.{Variable}
 use Rattle.kinds.specs.declared.numbered.Name.{Name}
 use Rattle.routine.specs.declared.rows.TermRow.{TermRow}
 use Rattle.routine.specs.declared.rows.CommandRow.{CommandRow}
-use Rattle.routine.specs.Commands.{Term, Single, assert, assume, assign, skip, raise}
-use Rattle.routine.specs.Decoding.{variable, item, part, term_of, well_formed, has_term}
-use Rattle.routine.specs.Standing.{single_tag, HasTerm, Fields}
+use Rattle.routine.specs.Commands.{Term, assert, assume, assign, skip, raise}
+use Rattle.routine.specs.Decoding.{item, part, well_formed}
+use Rattle.routine.specs.Standing.{HasTerm}
 use Rattle.routine.proofs.Splits.{both_true}
 use Rattle.passive.specs.Passive.{name, renamed, rename, passify_single}
 use Rattle.passify.specs.declared.maps.NameMap.{NameMap}

@@ -1,6 +1,5 @@
 -- What a passive form takes, counted without making it.
 use Rattle.std.specs.Prelude.{◌≡◌, ℕ, ◌+◌, ◌*◌, ◌^◌, ◌<◌, ◌≤◌, cond, List, length, Some, None, Option, ◌==◌}
-use Rattle.kinds.specs.declared.numbered.Name.{Name}
 use Rattle.routine.specs.declared.rows.TermRow.{TermRow}
 use Rattle.routine.specs.declared.rows.CommandRow.{CommandRow}
 use Rattle.routine.specs.Commands.{Single, Joint, Command, single, join}
@@ -10,7 +9,7 @@ use Rattle.passive.specs.Outcomes.{joint_nodes, nodes}
 use Rattle.passive.specs.Layout.{rows, terms}
 use Rattle.passify.specs.declared.maps.NameMap.{NameMap}
 use Rattle.passify.specs.declared.measuring.Measured.{Measured}
-use Rattle.passify.specs.Names.{map_of, names_of}
+use Rattle.passify.specs.Names.{names_of}
 
 -- the maps that a passive form ends with, the next new name, and how much it takes
 pub record Sizes : Type 0 where

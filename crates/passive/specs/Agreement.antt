@@ -1,11 +1,11 @@
 -- The passive form of a routine and its runs say the same.
-use Rattle.std.specs.Prelude.{◌≡◌, ℕ, ◌+◌, ◌*◌, ◌≤◌, true, false, ◌↔◌, List, map, length, take, Some, None, Option}
+use Rattle.std.specs.Prelude.{◌≡◌, ℕ, ◌+◌, ◌*◌, ◌≤◌, true, false, ◌↔◌, map, length, take, Some, None}
 use Rattle.kinds.specs.Kind.{KindOf}
 use Rattle.routine.specs.Commands.{Command, size, places}
-use Rattle.routine.specs.Runs.{State, Outcome, normal, raised, wrong, Run}
+use Rattle.routine.specs.Runs.{State, normal, raised, wrong, Run}
 use Rattle.routine.specs.Standing.{Proper}
-use Rattle.passive.specs.Passive.{Names, Passified, passive_form}
-use Rattle.passive.specs.Outcomes.{Assignment, named, Outcomes, outcomes, condition_nodes}
+use Rattle.passive.specs.Passive.{Names, passive_form}
+use Rattle.passive.specs.Outcomes.{Assignment, named, outcomes, condition_nodes}
 
 module _ {V : Type 0} (K : KindOf V) where
   -- the map reads the state off the assignment: each variable has the value of its name; an absent map reads none

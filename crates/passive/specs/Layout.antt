@@ -2,7 +2,7 @@
 use Rattle.std.specs.Prelude.{ℕ, ◌+◌, ◌-◌, List, [], ◌∷◌, ◌++◌, map, length, take, drop}
 use Rattle.kinds.specs.declared.numbered.Name.{Name}
 use Rattle.kinds.specs.declared.numbered.Node.{Node}
-use Rattle.routine.specs.Commands.{Item, literal, reference, operation, Term, Joint}
+use Rattle.routine.specs.Commands.{Item, literal, reference, operation, Term}
 use Rattle.routine.specs.Standing.{joint_tag}
 use Rattle.passive.specs.Passive.{name, PassiveSingle, p_assert, p_assume, p_let, p_skip, p_raise, p_stop, Passive, p_single, p_join}
 use Rattle.passive.specs.declared.rows.PassiveTermRow.{PassiveTermRow}

@@ -1,5 +1,5 @@
 -- The passive form of a routine: assignments give way to new names, each given its value once on every path.
-use Rattle.std.specs.Prelude.{ℕ, zero, suc, ◌+◌, Bool, true, false, List, [], ◌∷◌, map, Some, None, Option, ◌==◌, slice_index_or, slice_set}
+use Rattle.std.specs.Prelude.{ℕ, zero, suc, ◌+◌, true, false, List, [], ◌∷◌, map, Some, None, Option, ◌==◌, slice_index_or, slice_set}
 use Rattle.kinds.specs.declared.numbered.Variable.{Variable}
 use Rattle.kinds.specs.declared.numbered.Name.{Name}
 use Rattle.routine.specs.Commands.{Item, literal, reference, operation, Term, Single, assert, assume, assign, skip, raise, Joint, sequence, choice, catch, Command, single, join}

@@ -1,6 +1,6 @@
 -- How each joint is passified, as the rules state it. `joined` of Passive.antt has one clause for all three.
 use Rattle.std.specs.Prelude.{◌≡◌}
-use Rattle.routine.specs.Commands.{Joint, sequence, choice, catch}
+use Rattle.routine.specs.Commands.{sequence, choice, catch}
 use Rattle.passive.specs.Passive.{p_join, merge, tail, guard, Passified, joined}
 
 -- a sequence merges the raised maps, guards both parts and has the right part's normal map

@@ -1,5 +1,5 @@
 -- Rows in which a tree stands are accepted as that tree.
-use Rattle.std.proofs.Common.{◌≡◌, ℕ, ◌+◌, ◌-◌, ◌<◌, ◌≤◌, max, Bool, true, cond, ◌&&◌, eqb, leb, List, [], ◌∷◌, length, get_or, drop, Ok, Err, Result, sym, refl, ap, ◌∙◌, arith}
+use Rattle.std.proofs.Common.{◌≡◌, ℕ, ◌+◌, ◌-◌, ◌<◌, ◌≤◌, max, true, cond, ◌&&◌, eqb, leb, List, [], ◌∷◌, length, drop, Ok, Err, Result, refl, ap, ◌∙◌, arith}
 use Rattle.std.proofs.lemmas.List.{at_drop_more, at_drop_all}
 use Rattle.std.proofs.lemmas.Bool.Decides.{nat_tests}
 use Rattle.kinds.specs.declared.refusals.Refusal.{Refusal}
@@ -8,8 +8,8 @@ use Rattle.routine.specs.declared.rows.TermRow.{TermRow}
 use Rattle.routine.specs.declared.rows.CommandRow.{CommandRow}
 use Rattle.routine.specs.Limits.{deepest}
 use Rattle.routine.specs.Commands.{Command, single, join, size, depth}
-use Rattle.routine.specs.Decoding.{Reading, alone, joins, reading, placed, rows_from, within_limits, decode}
-use Rattle.routine.specs.Standing.{no_row, row, EndsAt, Stands, DecodingComplete}
+use Rattle.routine.specs.Decoding.{Reading, alone, joins, reading, placed, rows_from}
+use Rattle.routine.specs.Standing.{no_row, row, EndsAt, DecodingComplete}
 use Rattle.routine.proofs.Readings.{reads_single, reads_joint}
 use Rattle.routine.proofs.Finished.{size_pos}
 

@@ -1,5 +1,5 @@
 -- Where decoding accepts, the tree stands in the rows and is proper.
-use Rattle.std.proofs.Common.{◌≡◌, ℕ, zero, suc, ◌+◌, ◌-◌, ◌<◌, ◌≤◌, max, Bool, true, false, cond, ◌&&◌, eqb, leb, List, [], ◌∷◌, length, get_or, drop, Ok, Err, Result, sym, refl, ap, ◌∙◌, subst, arith}
+use Rattle.std.proofs.Common.{◌≡◌, ℕ, zero, suc, ◌+◌, ◌-◌, ◌<◌, ◌≤◌, max, true, ◌&&◌, eqb, leb, List, [], ◌∷◌, length, drop, Ok, Err, Result, sym, refl, subst, arith}
 use Rattle.std.proofs.lemmas.List.{at_drop_more, at_drop_all}
 use Rattle.std.proofs.lemmas.Bool.Decides.{nat_tests}
 use Rattle.kinds.specs.declared.numbered.Variable.{Variable}
@@ -8,7 +8,7 @@ use Rattle.routine.specs.declared.rows.TermRow.{TermRow}
 use Rattle.routine.specs.declared.rows.CommandRow.{CommandRow}
 use Rattle.routine.specs.Limits.{deepest}
 use Rattle.routine.specs.Commands.{Term, Single, assert, assume, assign, skip, raise, Joint, Command, single, join, size, depth}
-use Rattle.routine.specs.Decoding.{part, term_of, well_formed, has_term, Reading, alone, joins, reading, joined, placed, whole, rows_from, within_limits, decode}
+use Rattle.routine.specs.Decoding.{part, well_formed, Reading, alone, joins, reading, joined, placed, whole, rows_from, within_limits}
 use Rattle.routine.specs.Standing.{no_row, ProperTerm, ProperSingle, Proper, HasTerm, Fields, row, EndsAt, Stands, DecodingSound}
 use Rattle.routine.proofs.Splits.{by_test, both_true}
 use Rattle.routine.proofs.Terms.{term_works}

@@ -2,7 +2,7 @@
 use Rattle.std.specs.Prelude.{◌≡◌, ℕ, Bool, true, false, List, [], ◌∷◌, slice_index_or, slice_set}
 use Rattle.kinds.specs.Kind.{KindOf}
 use Rattle.kinds.specs.declared.numbered.Variable.{Variable}
-use Rattle.routine.specs.Commands.{Item, literal, reference, operation, Term, Single, assert, assume, assign, skip, raise, Joint, sequence, choice, catch, Command, single, join}
+use Rattle.routine.specs.Commands.{literal, reference, operation, Term, assert, assume, assign, skip, raise, sequence, choice, catch, Command, single, join}
 
 module _ {V : Type 0} (K : KindOf V) where
   -- an operation takes the last two waiting values, the earlier as first operand; the last stands first in the list

@@ -1,10 +1,10 @@
 -- Where a tree stands in the rows of a routine. Code that recurses over the rows goes by this relation.
-use Rattle.std.specs.Prelude.{◌≡◌, ℕ, ◌+◌, ◌-◌, ◌<◌, ◌≤◌, Bool, true, List, [], ◌∷◌, length, Ok, Result, slice_index_or}
+use Rattle.std.specs.Prelude.{◌≡◌, ℕ, ◌+◌, ◌-◌, ◌<◌, ◌≤◌, true, List, [], ◌∷◌, length, Ok, slice_index_or}
 use Rattle.kinds.specs.declared.numbered.Variable.{Variable}
 use Rattle.routine.specs.declared.rows.TermRow.{TermRow}
 use Rattle.routine.specs.declared.rows.CommandRow.{CommandRow}
 use Rattle.routine.specs.Limits.{most_waiting, deepest}
-use Rattle.routine.specs.Commands.{Item, literal, reference, operation, Term, Single, assert, assume, assign, skip, raise, Joint, sequence, choice, catch, Command, single, join, size, depth}
+use Rattle.routine.specs.Commands.{literal, reference, operation, Term, Single, assert, assume, assign, skip, raise, Joint, sequence, choice, catch, Command, single, join, size, depth}
 use Rattle.routine.specs.Decoding.{variable, term_of, has_term, within_limits, decode}
 
 abbrev pub no_row : CommandRow

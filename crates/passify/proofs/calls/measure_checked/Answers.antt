@@ -1,4 +1,3 @@
-use Rattle.std.proofs.Common.{arith}
 use Rattle.passify.proofs.Accepted.{checked_few, checked_measurable, checked_measured}
 use Rattle.passify.proofs.calls.measure_checked.Goals as goal
 

@@ -1,4 +1,4 @@
-use Rattle.std.proofs.Common.{◌≡◌, sym, ◌∙◌, arith}
+use Rattle.std.proofs.Common.{sym, ◌∙◌}
 use Rattle.kinds.specs.declared.refusals.Refusal.TheVariants.{Names, WorkTable}
 use Rattle.routine.specs.Decoding.{decode}
 use Rattle.passive.proofs.Rules.{joints_as_stated}

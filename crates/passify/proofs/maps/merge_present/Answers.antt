@@ -1,4 +1,4 @@
-use Rattle.std.proofs.Common.{◌≡◌, ℕ, ◌+◌, ◌<◌, Some, sym, ap, arith}
+use Rattle.std.proofs.Common.{ℕ, ◌+◌, ◌<◌, Some, sym, ap, arith}
 use mathlib.Core.Path.{subst₃}
 use Rattle.passify.specs.declared.maps.NameMap.{NameMap}
 use Rattle.passify.proofs.MergeTurns.{all, Sofar, begun, same, room, apart, done}

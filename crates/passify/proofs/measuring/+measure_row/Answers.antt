@@ -1,6 +1,5 @@
-use Rattle.std.proofs.Common.{List, subst, arith}
-use Rattle.routine.specs.declared.rows.TermRow.{TermRow}
-use Rattle.passify.specs.Measuring.{Measurable, Measures}
+use Rattle.std.proofs.Common.{subst, arith}
+use Rattle.passify.specs.Measuring.{Measurable}
 use Rattle.passify.proofs.RowParts.{left_falls, left_measurable, right_measurable, joined_fits}
 use Rattle.passify.proofs.measuring.+measure_row.Goals as goal
 

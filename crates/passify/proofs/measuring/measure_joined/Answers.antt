@@ -1,5 +1,4 @@
-use Rattle.std.proofs.Common.{◌≡◌, sym, ap, ◌∙◌, arith}
-use Rattle.passify.proofs.Joins.{n_room, x_room, joined_measured, sums_fit}
+use Rattle.passify.proofs.Joins.{n_room, x_room}
 use Rattle.passify.proofs.measuring.measure_joined.Goals as goal
 
 pub merge-n-requires : goal.merge-n-requires

@@ -1,9 +1,9 @@
-use Rattle.std.proofs.Common.{◌≡◌, Some, sym, refl, ap, ◌∙◌, subst, arith}
+use Rattle.std.proofs.Common.{Some, sym, ap, subst, arith}
 use Rattle.passify.specs.Pieces.{one_row}
 use Rattle.passify.specs.Writing.{Writable, Written}
 use Rattle.passify.proofs.Wrotes.{wrote_as}
 use Rattle.passify.proofs.RowParts.{left_falls, joined_fits}
-use Rattle.passify.proofs.RowWrites.{writable_measurable, stop_room, stop_written, single_writable, single_written, left_writable, left_measures, right_measured, left_side_room, right_writable, middle_some, right_side_room, row_room, joined_written}
+use Rattle.passify.proofs.RowWrites.{writable_measurable, stop_room, stop_written, single_writable, left_writable, left_measures, right_measured, left_side_room, right_writable, middle_some, right_side_room, row_room, joined_written}
 use Rattle.passify.proofs.passing.+passify_row.Goals as goal
 
 pub write_row-requires : goal.write_row-requires

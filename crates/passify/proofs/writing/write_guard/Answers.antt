@@ -1,4 +1,4 @@
-use Rattle.std.proofs.Common.{◌≡◌, sym, ap, ◌∙◌, arith}
+use Rattle.std.proofs.Common.{ap, arith}
 use Rattle.passify.specs.Pieces.{one_row}
 use Rattle.passify.specs.Writing.{renamings}
 use Rattle.passify.proofs.Wrotes.{wrote_as}

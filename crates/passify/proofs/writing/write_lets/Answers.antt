@@ -1,7 +1,6 @@
-use Rattle.std.proofs.Common.{◌≡◌, ℕ, ◌+◌, ◌<◌, sym, refl, ap, ◌∙◌, subst₂, arith}
-use Rattle.passify.specs.declared.writing.Place.{Place}
+use Rattle.std.proofs.Common.{◌<◌, arith}
 use Rattle.passify.proofs.MergeTurns.{all}
-use Rattle.passify.proofs.LetTurns.{Sofar, begun, same, behind, names_room, let_room, moved, apart, written, named}
+use Rattle.passify.proofs.LetTurns.{begun, same, behind, names_room, let_room, moved, apart, written, named}
 use Rattle.passify.proofs.writing.write_lets.Goals as goal
 use Rattle.passify.proofs.writing.write_lets.Goals.{then-a-i, else-a-i, Then-a-i}
 

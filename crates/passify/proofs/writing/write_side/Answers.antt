@@ -1,4 +1,4 @@
-use Rattle.std.proofs.Common.{◌≡◌, ◌+◌, ◌*◌, length, ap, arith}
+use Rattle.std.proofs.Common.{◌+◌, ◌*◌, length, ap, arith}
 use Rattle.passify.specs.Names.{names_of}
 use Rattle.passify.specs.Pieces.{tail_piece, guard_piece}
 use Rattle.passify.specs.Writing.{renamings, next_after}

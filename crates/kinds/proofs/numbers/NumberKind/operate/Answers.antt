@@ -1,4 +1,4 @@
-use Rattle.std.proofs.Common.{◌≡◌, ℕ, sym, ap, ◌∙◌, w32, SFits, rules}
+use Rattle.std.proofs.Common.{◌≡◌, sym, ap, ◌∙◌, w32, SFits, rules}
 use Rattle.std.proofs.lemmas.Int.{wrapping_add_is, wrapping_sub_is, wrapping_mul_is}
 use Rattle.kinds.specs.Numbers.{number, operated}
 use Rattle.kinds.proofs.numbers.NumberKind.operate.Goals as goal
