@@ -1,5 +1,5 @@
 -- A filing that is answered: refused at its condition, refused for want of an entry, or filed.
-use Rattle.std.proofs.Common.{◌≡◌, ℕ, ◌<◌, ◌≤◌, Bool, true, false, cond, ltb, List, [], ◌∷◌, ◌++◌, length, Ok, Err, Result, sym, refl, ap, ◌∙◌, subst}
+use Rattle.std.proofs.Common.{◌≡◌, ℕ, ◌<◌, ◌≤◌, cond, List, [], ◌∷◌, ◌++◌, length, Ok, Err, Result, sym, refl, ap, ◌∙◌}
 use Rattle.std.proofs.lemmas.Bool.{lt-ltb, le-ltb}
 use Rattle.kinds.specs.Kind.{KindOf}
 use Rattle.kinds.specs.declared.numbered.Node.{Node}
@@ -21,7 +21,7 @@ use Rattle.register.specs.declared.entries.Entry.{Entry}
 use Rattle.register.specs.declared.entries.Filing.{Filing}
 use Rattle.register.specs.declared.entries.Answer.TheVariants.{Filed, Refused}
 use Rattle.register.specs.Held.{most_entries, Held, entry}
-use Rattle.register.specs.Answers.{file_request, filing, rise, Files, room_for_one, file_verdict, Answered, filed, file_refused}
+use Rattle.register.specs.Answers.{file_request, rise, room_for_one, file_verdict, Answered, filed, file_refused}
 
 -- the answer of the code, from the condition that it made
 abbrev pub filing_of : ℕ → Condition → Filing

@@ -9,7 +9,7 @@ use Rattle.routine.specs.declared.rows.TermRow.{TermRow}
 use Rattle.routine.specs.declared.rows.CommandRow.{CommandRow}
 use Rattle.routine.specs.Commands.{Command}
 use Rattle.routine.specs.Decoding.{decode}
-use Rattle.passive.specs.Passive.{Passive, passive_form}
+use Rattle.passive.specs.Passive.{passive_form}
 use Rattle.passive.specs.Outcomes.{Assignment, outcomes}
 use Rattle.passive.specs.declared.rows.PassiveRow.{PassiveRow}
 use Rattle.passify.proofs.Accepted.{proper, bounds}

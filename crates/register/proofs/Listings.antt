@@ -1,5 +1,5 @@
 -- The entries in use, as a list, and what a call that is not refused leaves.
-use Rattle.std.proofs.Common.{◌≡◌, ℕ, ◌+◌, ◌-◌, ◌<◌, ◌≤◌, max, Bool, true, false, cond, ◌&&◌, ltb, List, [], ◌∷◌, ◌++◌, length, get_or, take, set, Some, None, Ok, Err, Option, Result, sym, refl, ap, ◌∙◌, subst, arith}
+use Rattle.std.proofs.Common.{◌≡◌, ℕ, ◌<◌, max, Bool, true, false, ◌&&◌, ltb, List, [], ◌∷◌, ◌++◌, length, take, set, Some, None, Ok, Err, Option, Result, sym, refl, ap, ◌∙◌, subst, arith}
 use lib.Seq.{take-set-lt}
 use Rattle.std.proofs.lemmas.List.{get_or-take, length-take}
 use Rattle.std.proofs.lemmas.Bool.{ltb-true}
@@ -11,8 +11,8 @@ use Rattle.formula.specs.Store.{Making, make_and, Meaning, unless, refused_by, D
 use Rattle.register.specs.declared.entries.Entry.{Entry}
 use Rattle.register.specs.declared.entries.Answer.TheVariants.{Joined, Marked, Shown, Refused}
 use Rattle.register.specs.declared.registers.Entries.{Entries as Kept}
-use Rattle.register.specs.Held.{most_entries, Held, entry, entry_at, struck_out, there, standing, entry_refusal, join_tests, join_refusal}
-use Rattle.register.specs.Answers.{join_request, strike_request, read_request, reading, rise, Joins, Answered, joined, join_refused, struck, shown}
+use Rattle.register.specs.Held.{most_entries, Held, entry, entry_at, struck_out, there, standing, entry_refusal, join_tests}
+use Rattle.register.specs.Answers.{join_request, strike_request, read_request, reading, rise, Answered, joined, join_refused, struck, shown}
 use Rattle.register.specs.Views.{listed}
 
 pub listed_set : (n : ℕ) (xs : List Entry) (i : ℕ) → i < n → take n (set xs i (struck_out (entry_at xs i))) ≡ set (take n xs) i (struck_out (entry_at (take n xs) i))

@@ -1,14 +1,11 @@
 -- What the code's register holds, and its answers as one type.
-use Rattle.std.specs.Prelude.{ℕ, List, [], ◌∷◌, take, Ok, Err, Result}
+use Rattle.std.specs.Prelude.{List, [], ◌∷◌, take, Ok, Err, Result}
 use Rattle.kinds.specs.declared.refusals.Refusal.{Refusal}
 use Rattle.passive.specs.declared.rows.PassiveTermRow.{PassiveTermRow}
 use Rattle.passive.specs.declared.rows.PassiveRow.{PassiveRow}
 use Rattle.register.specs.declared.entries.Entry.{Entry}
-use Rattle.register.specs.declared.entries.Filing.{Filing}
-use Rattle.register.specs.declared.entries.Joining.{Joining}
-use Rattle.register.specs.declared.entries.Reading.{Reading}
 use Rattle.register.specs.declared.entries.Answer.{Answer}
-use Rattle.register.specs.declared.entries.Answer.TheVariants.{Filed, Joined, Marked, Shown, Refused}
+use Rattle.register.specs.declared.entries.Answer.TheVariants.{Marked, Refused}
 use Rattle.register.specs.declared.registers.Entries.{Entries}
 use Rattle.register.specs.declared.registers.Register.{Register}
 use Rattle.register.specs.declared.entries.Request.{Request as Asked}

@@ -9,5 +9,5 @@ returns-in-Some g c E T = read_refused (sym c.in-Some.ensures)
 
 pub returns : goal.returns
 returns g c E T =
-    shown_by g.S.Value.Kind.kind g.S.Store.meaning g.S.Store.steps (held c.args.self.now E T) c.args.j c.in-use.result.now
-    (sym c.in-default.ensures) c.in-use.ensures.listed
+    shown_by g.S.Value.Kind.kind g.S.Store.meaning g.S.Store.steps (held c.args.self.now E T) c.args.j c.in_use.result.now
+    (sym c.in_default.ensures) c.in_use.ensures.listed

@@ -11,12 +11,12 @@ returns g c =
     let steps = g.S.Store.steps in
     let E = c.args.rows.now in
     let T = c.args.terms.now in
-    let xs = exchanges c.args.requests.now c.answer-all.new.answers in
-    let after = held c.answer-all.new.self c.answer-all.new.rows c.answer-all.new.terms in
+    let xs = exchanges c.args.requests.now c.answer_all.new.answers in
+    let after = held c.answer_all.new.self c.answer_all.new.rows c.answer_all.new.terms in
     let past : History K M steps (new_held c.args.v c.args.store E T) xs after =
-    subst (λ b. History K M steps b xs after) (c.new-register.ensures E T) c.answer-all.ensures.history in
+    subst (λ b. History K M steps b xs after) (c.new-register.ensures E T) c.answer_all.ensures.history in
     record {
       history = past;
       promise = promise_kept K M steps g.met.S.Store.lawful g.met.S.Store.sound c.args.v c.args.store E T xs after past;
-      rest = c.answer-all.ensures.rest;
+      rest = c.answer_all.ensures.rest;
     }
