@@ -1,7 +1,7 @@
 -- The routine of the walkthrough, over a number v0 and a counter v1.
-use Rattle.std.specs.Prelude.{ℕ, List, [], ◌∷◌}
+use Rattle.std.specs.Prelude.{[], ◌∷◌}
 use Rattle.kinds.specs.declared.numbered.Variable.{Variable}
-use Rattle.routine.specs.Commands.{Item, literal, reference, operation, Term, assert, assume, assign, Joint, sequence, choice, Command, single, join}
+use Rattle.routine.specs.Commands.{Item, literal, reference, operation, Term, assert, assume, assign, sequence, choice, Command, single, join}
 use Rattle.routine.specs.Decoding.{variable}
 
 abbrev v0 : Item Variable

@@ -1,6 +1,6 @@
 -- Routines of a wanted shape, row by row. A command's rows are those of its left part, those of its right part, and then its own; so a
 -- joined row i has its right part before it, ending at row i - 1, and it is enough to say where its left part ends.
-use Rattle.std.specs.Prelude.{ℕ, ◌+◌, ◌-◌, ◌*◌, ◌/◌, ◌%◌, Bool, true, false, cond, List, [], ◌∷◌, Some, None, Option, ◌==◌, nat_le, nat_lt}
+use Rattle.std.specs.Prelude.{ℕ, ◌+◌, ◌-◌, ◌*◌, ◌/◌, ◌%◌, cond, List, [], ◌∷◌, Some, None, Option, ◌==◌, nat_le, nat_lt}
 use Rattle.routine.specs.declared.rows.TermRow.{TermRow}
 use Rattle.routine.specs.declared.rows.CommandRow.{CommandRow}
 use Rattle.shapes.specs.declared.Shape.{Shape}

@@ -6,9 +6,9 @@ use Rattle.shapes.proofs.fill_sum.Goals as goal
 
 pub loop-i-preserved : goal.loop-i-preserved
 loop-i-preserved c = (
-  length-set c.loop-i.terms c.loop-i.i c.sum-row.result ∙ c.loop-i.invariant.0,
-  filled_more (sum_row (length c.args.terms.now)) (literal_row 0) c.loop-i.terms c.loop-i.i c.sum-row.result
+  length-set c.loop-i.terms c.loop-i.i c.sum_row.result ∙ c.loop-i.invariant.0,
+  filled_more (sum_row (length c.args.terms.now)) (literal_row 0) c.loop-i.terms c.loop-i.i c.sum_row.result
       (omega (arith, c.loop-i.invariant.0, c.loop-i-test.true))
-      (c.sum-row.ensures ∙ ap (λ n. sum_row n c.loop-i.i) c.loop-i.invariant.0)
+      (c.sum_row.ensures ∙ ap (λ n. sum_row n c.loop-i.i) c.loop-i.invariant.0)
       c.loop-i.invariant.1,
 )

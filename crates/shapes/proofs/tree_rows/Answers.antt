@@ -10,12 +10,12 @@ loop-size-init c = refl
 
 pub returns-then-n-size : goal.returns-then-n-size
 returns-then-n-size c =
-    sym (part_there perfect c.loop-size.size-index c.loop-size.n c.in-half-n.result c.loop-size-test.true c.in-half-n.ensures c.if-n-size.true)
+    sym (part_there perfect c.loop-size.size-index c.loop-size.n c.in_half-n.result c.loop-size-test.true c.in_half-n.ensures c.if-n-size.true)
     ∙ c.loop-size.invariant
 
 pub loop-size-preserved : goal.loop-size-preserved
 loop-size-preserved c =
-    sym (part_smaller perfect c.loop-size.size-index c.loop-size.n c.in-half-n.result c.loop-size-test.true c.in-half-n.ensures c.if-n-size.false)
+    sym (part_smaller perfect c.loop-size.size-index c.loop-size.n c.in_half-n.result c.loop-size-test.true c.in_half-n.ensures c.if-n-size.false)
     ∙ c.loop-size.invariant
 
 pub returns : goal.returns
