@@ -1,8 +1,12 @@
 // Routines of a wanted size and depth.
+ghost use Rattle.std.specs.Prelude.{◌≡◌};
+
 use routine::rows::{CommandRow, TermRow};
 use std::alloc::{AllocError, Global};
 
-pub fn row(tag: u32, target: u32, from: u32, count: u32, left: u32) -> CommandRow {
+pub fn row(tag: u32, target: u32, from: u32, count: u32, left: u32) -> CommandRow
+    ensures { result ≡ record { tag = tag; target = target; from = from; count = count; left = left } }
+{
     CommandRow {
         tag,
         target,
@@ -12,7 +16,9 @@ pub fn row(tag: u32, target: u32, from: u32, count: u32, left: u32) -> CommandRo
     }
 }
 
-pub fn item(tag: u32, number: u16) -> TermRow {
+pub fn item(tag: u32, number: u16) -> TermRow
+    ensures { result ≡ record { tag = tag; number = number } }
+{
     TermRow { tag, number }
 }
 
