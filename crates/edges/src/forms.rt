@@ -1,5 +1,5 @@
 // Passive forms against tables worked out by hand, and measure and passify at their limits.
-ghost use Rattle.std.specs.Prelude.{◌≡◌, [], ◌∷◌};
+ghost use Rattle.std.specs.Prelude.{◌≡◌, [], ◌∷◌, is_ok};
 ghost use Rattle.passive.specs.Layout.{passive_row, joint_row};
 
 use crate::shapes::{item, row};
@@ -10,7 +10,6 @@ use passify::calls::{FormLengths, FormMeasures, measure, passify};
 use passive::rows::{PassiveRow, PassiveTermRow};
 use routine::rows::{CommandRow, TermRow};
 use std::alloc::{AllocError, Global};
-use std::process::Abort;
 use std::test::Fail;
 
 fn passive(tag: u32, f: u16, from: u32, count: u32, left: u32) -> PassiveRow
@@ -70,9 +69,19 @@ const OLD_TERM: PassiveTermRow = PassiveTermRow {
     number: 77,
 };
 
+// What a helper of the tests asks for.
+fn check(holds: bool) -> Result<(), Fail>
+    ensures { is_ok result ≡ holds }
+{
+    if holds {
+        Ok(())
+    } else {
+        Err(Fail::new("not as worked out by hand"))
+    }
+}
+
 // The passive form, in tables two rows longer than it, is these rows; the two rows behind are as before.
 fn same_form(
-    rt: &impl Abort,
     heap: Global,
     v: u32,
     commands: &[CommandRow],
@@ -89,12 +98,12 @@ fn same_form(
         found.as_mut_slice(),
         found_terms.as_mut_slice(),
     );
-    assert!(rt; answer.is_ok());
+    check(answer.is_ok())?;
     for (i, got) in found.iter().enumerate() {
-        assert!(rt; *got == *rows.get(i).unwrap_or(&OLD));
+        check(*got == *rows.get(i).unwrap_or(&OLD))?;
     }
     for (i, got) in found_terms.iter().enumerate() {
-        assert!(rt; *got == *passive_terms.get(i).unwrap_or(&OLD_TERM));
+        check(*got == *passive_terms.get(i).unwrap_or(&OLD_TERM))?;
     }
     Ok(())
 }
@@ -118,7 +127,6 @@ fn one_part_sets(rt: HostRuntime) -> Result<(), Fail> {
         joined(7, 2),
     ];
     same_form(
-        &rt,
         rt.alloc(),
         1,
         &set_or_skip(),
@@ -151,7 +159,6 @@ fn handler_sets(rt: HostRuntime) -> Result<(), Fail> {
     ];
     let terms = [item(1, 1), item(1, 2)];
     same_form(
-        &rt,
         rt.alloc(),
         1,
         &commands,
@@ -206,7 +213,6 @@ fn two_merges(rt: HostRuntime) -> Result<(), Fail> {
     ];
     let passive_terms = [literal(1), name(1), name(1), literal(2), name(2), name(2)];
     same_form(
-        &rt,
         rt.alloc(),
         1,
         &commands,
@@ -221,7 +227,6 @@ fn two_merges(rt: HostRuntime) -> Result<(), Fail> {
 fn stops(rt: HostRuntime) -> Result<(), Fail> {
     let commands = [row(5, 0, 0, 0, 0), row(1, 0, 0, 1, 0), row(6, 0, 0, 0, 0)];
     same_form(
-        &rt,
         rt.alloc(),
         0,
         &commands,
@@ -250,10 +255,10 @@ fn measures(rt: HostRuntime) {
 }
 
 // the sample in tables of these lengths
-fn in_tables(rt: &impl Abort, rows: usize, terms: usize) -> Result<FormLengths, Refusal> {
+fn in_tables(rows: usize, terms: usize) -> Result<Result<FormLengths, Refusal>, Fail> {
     let mut found = [OLD; 7];
     let mut found_terms = [OLD_TERM; 3];
-    assert!(rt; rows <= 7 && terms <= 3);
+    check(rows <= 7 && terms <= 3)?;
     let answer = passify::<Number>(
         1,
         &set_or_skip(),
@@ -262,28 +267,29 @@ fn in_tables(rt: &impl Abort, rows: usize, terms: usize) -> Result<FormLengths, 
         &mut found_terms[0..terms],
     );
     if answer.is_err() {
-        assert!(rt;
+        check(
             found[0] == OLD
                 && found[5] == OLD
                 && found_terms[0] == OLD_TERM
-                && found_terms[1] == OLD_TERM
-        );
+                && found_terms[1] == OLD_TERM,
+        )?;
     }
-    answer
+    Ok(answer)
 }
 
 #[test]
-fn tables_just_long_enough(rt: HostRuntime) {
+fn tables_just_long_enough(rt: HostRuntime) -> Result<(), Fail> {
     assert_eq!(rt;
-        in_tables(&rt, 7, 3),
+        in_tables(7, 3)?,
         Ok(FormLengths {
             names: 3,
             rows: 7,
             terms: 3,
         })
     );
-    assert_eq!(rt; in_tables(&rt, 6, 3), Err(Refusal::WorkTable));
-    assert_eq!(rt; in_tables(&rt, 7, 2), Err(Refusal::WorkTable));
+    assert_eq!(rt; in_tables(6, 3)?, Err(Refusal::WorkTable));
+    assert_eq!(rt; in_tables(7, 2)?, Err(Refusal::WorkTable));
+    Ok(())
 }
 
 // a chain of sets of v0 to v31, in `levels` choices with skip; such blocks in sequence
