@@ -1,4 +1,4 @@
-use Rattle.std.proofs.Common.{Err, sym, refl, ap, ◌∙◌}
+use Rattle.std.proofs.Common.{Err, sym, ap, ◌∙◌, rules}
 use Rattle.std.proofs.lemmas.Result.{err_from_is_err_and}
 use Rattle.register.specs.Views.{held}
 use Rattle.register.proofs.Listings.{not_joined_first, not_joined_last, joined_by}
@@ -21,5 +21,4 @@ pub returns : goal.returns
 returns g c E T =
     joined_by g.S.Value.Kind.kind g.S.Store.meaning g.S.Store.steps (held c.args.self.now E T) c.args.j c.args.k
     c.in_use-all.result.now c.in_use-all.ensures.listed (sym c.in_default.ensures) c.and.result c.and.new.self c.and.ensures
-    c.in_ok-node.node _ _ _ c.in_ok-node.was c.push.ensures.listed c.max.ensures
-    (rw (c.count.ensures, c.count-before.ensures) refl)
+    c.in_ok-node.node _ _ _ c.in_ok-node.was c.push.ensures.listed (search rules) (search rules)
