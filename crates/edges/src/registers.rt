@@ -222,11 +222,11 @@ fn readme(rt: HostRuntime) -> Result<(), Fail> {
         count: 3,
         left: 0,
     }];
-    let nodes = vec![in rt.alloc(); UNUSED; 100]?;
+    let nodes = vec![in rt.alloc(); NodeRow::BLANK; 100]?;
     let store: TableStore<Number> = TableStore::new(nodes, 1);
     let mut register = Register::new(store, 1);
-    let mut rows = [BLANK_ROW; 1];
-    let mut out = [BLANK_TERM; 3];
+    let mut rows = [PassiveRow::BLANK; 1];
+    let mut out = [PassiveTermRow::BLANK; 3];
     match register.file(&commands, &terms, &mut rows, &mut out) {
         Ok(filing) => {
             assert!(rt; filing.node == Node(6) && register.store().row(filing.node).is_ok());
