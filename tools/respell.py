@@ -2,123 +2,107 @@
 """Respells the repository's own names as today's Rattle spells them, once, after the kit's port.py.
 
 A definition, a lemma, a field or a constructor is in snake case, and a type in upper camel case; what Rattle generates keeps its dashes.
+It stops where two names would fall together.
 usage: python3 tools/respell.py            at the top: rewrites the files below crates/
-       python3 tools/respell.py --list     prints what it would rename, and what names would fall together
+       python3 tools/respell.py --list     prints what it would rename
 """
 import os
 import re
 import sys
 
-WORD = r"[\w'\-·≢≡≤<>≥=+∷ℤℕ₁₂₃∙*&|]"
-SIGN = re.compile(r"^(\s*)((?:abbrev |unfoldable |pub |record |data |mutual )*)([^\s(){}:;,.=λ→]+(?:\s+[^\s(){}:;,.=λ→]+)*)((?:\s+[({].*?[)}])*)\s+:\s")
+# Names that a definition may share: a function or a variable of src/, which no clause takes for the definition.
+SHARED = set("""
+    capacity_of combs_left deep_combs fourth_rows in_half join_refusal joint_name joint_nodes joint_row let_row most_names
+    most_waiting passify_single passive_terms same_form shape_name single_row smaller_combs term_room term_row tree_left
+    tree_rows worked_out
+""".split())
+
+# A signature: `name name : type`, or `record name (parameters) : type`.
+SIGNATURE = re.compile(
+    r"^\s*(?:abbrev |unfoldable |pub |record |data |mutual )*"
+    r"([^\s(){}:;,.=λ→]+(?:\s+[^\s(){}:;,.=λ→]+)*)(?:\s+[({].*?[)}])*\s+:(?:\s|$)"
+)
+NOT_A_SIGNATURE = re.compile(r"^\s*(let|in|elim)\s")
+GENERATED = re.compile(r"^\s*(abbrev )?(pub )?\S+ : goal\.")
+# port.py writes a type of two words with a `_` where the library has such a word.
+OLD_NAME = re.compile(r"^[A-Za-z].*-|^[A-Z].*_")
+LETTERS = r"[\w'\-·≢≡]"
 
 
 def files(top):
-    for folder, dirs, names in os.walk(top):
-        dirs[:] = sorted(d for d in dirs if d not in ("out", "target"))
-        for n in sorted(names):
-            if n.endswith((".antt", ".rt", ".edit")):
-                yield os.path.join(folder, n)
+    for folder, inner, names in os.walk(top):
+        inner[:] = sorted(d for d in inner if d not in ("out", "target"))
+        for name in sorted(names):
+            if name.endswith((".antt", ".rt", ".edit")):
+                yield os.path.join(folder, name)
 
 
-def is_proof_of_function(path):
-    return os.path.basename(path) in ("Answers.antt", "Invariants.antt", "Proof.antt")
-
-
-def generated(line):
-    return re.match(r"^\s*(?:abbrev )?(?:pub )?(\S+) : goal\.", line)
+def lines(path):
+    with open(path, encoding="utf-8") as f:
+        return f.read().split("\n")
 
 
 def code(line):
-    i = line.find("--")
-    while i >= 0 and i > 0 and line[i - 1] not in " \t":
-        i = line.find("--", i + 2)
-    return line if i < 0 else line[:i]
+    """The line without its comment: two dashes behind a space, or at its start."""
+    m = re.search(r"(?:^|(?<=[ \t]))--", line)
+    return line[: m.start()] if m else line
 
 
 def defined(paths):
-    out = {}
-    for p in paths:
-        if not p.endswith(".antt"):
-            continue
-        for line in open(p, encoding="utf-8"):
-            if generated(line):
-                continue
-            m = SIGN.match(code(line))
-            for name in m[3].split() if m and not re.match(r"\s*(let|in|elim)\s", line) else []:
-                # port.py writes a type of two words with a _ where the library has such a word
-                if re.match(r"^[A-Za-z].*-|^[A-Z].*_", name):
-                    out.setdefault(name, set()).add(p)
-    return out
+    names = set()
+    for path in paths:
+        for line in lines(path) if path.endswith(".antt") else []:
+            m = SIGNATURE.match(code(line))
+            if m and not NOT_A_SIGNATURE.match(line) and not GENERATED.match(line):
+                names |= {name for name in m[1].split() if OLD_NAME.match(name)}
+    return names
 
 
 def respelled(name):
     if name[0].isupper():
-        parts = re.split("[-_]", name)
-        return parts[0] + "".join(x[:1].upper() + x[1:] for x in parts[1:])
+        first, *others = re.split("[-_]", name)
+        return first + "".join(word[:1].upper() + word[1:] for word in others)
     return name.replace("-", "_")
+
+
+def words(paths):
+    for path in paths:
+        for line in lines(path) if not path.endswith(".edit") else []:
+            yield from re.findall(r"[A-Za-z_][\w'\-]*", code(line))
+
+
+def turned(path, line, turn):
+    """The line with its names respelled: all of an .antt file but comments; of other files what speaks of definitions."""
+    if path.endswith(".antt"):
+        kept = code(line)
+        return turn(kept) + line[len(kept) :]
+    if "ghost " in line or re.match(r"^\s*(requires|ensures|old: |new: )", line):
+        return turn(line)
+    return line
 
 
 def main():
     paths = list(files("crates"))
-    names = defined(paths)
-    std = set()
-    ours = set()
-    tokens = {}
-    for p in paths:
-        if not p.endswith((".antt", ".rt")):
-            continue
-        for line in open(p, encoding="utf-8"):
-            m = re.match(r"^\s*(?:pub |ghost )?use (Rattle\.std\.|antt|denote|mathlib|native|Prim)[^{]*\{(.*)\}", line)
-            if m:
-                std |= {x.strip().split(" as ")[0] for x in m[2].split(",")}
-            for t in re.findall(r"[A-Za-z_][\w'\-]*", code(line)):
-                tokens.setdefault(t, set()).add(p)
-    turn = {n: respelled(n) for n in names}
-    clash = sorted(n for n in turn if n in std)
-    for n in clash:
-        del turn[n]
-    together = {}
-    for n, t in turn.items():
-        together.setdefault(t, set()).add(n)
-        if t in tokens:
-            together[t].add(t)
-    fallen = {t: ns for t, ns in together.items() if len(ns) > 1}
+    names = {name: respelled(name) for name in defined(paths)}
     if "--list" in sys.argv:
-        for n in sorted(turn):
-            print(n, "->", turn[n])
-        print("also std's:", clash)
-        for t, ns in sorted(fallen.items()):
-            print("together:", t, sorted(ns), sorted(names.get(sorted(ns)[0], []))[:2], sorted(tokens.get(t, []))[:4])
+        for name in sorted(names):
+            print(name, "->", names[name])
         return
-    for n, t in SPECIAL.items():
-        turn[n] = t
-    for t, ns in fallen.items():
-        for n in ns:
-            if n in turn and n not in SPECIAL and turn[n] == t and t in tokens and t not in ALLOWED:
-                raise SystemExit(f"{n} and {t} would fall together")
-    pattern = re.compile(r"(?<![\w'\-·≢≡])(" + "|".join(sorted(map(re.escape, turn), key=len, reverse=True)) + r")(?![\w'\-·≢≡])")
-    for p in paths:
-        old = open(p, encoding="utf-8").read()
-        new = []
-        for line in old.split("\n"):
-            if p.endswith(".antt"):
-                c = code(line)
-                new.append(pattern.sub(lambda m: turn[m[1]], c) + line[len(c):])
-            elif re.match(r"^\s*(ghost |requires|ensures|old: |new: )", line) or "ghost " in line:
-                new.append(pattern.sub(lambda m: turn[m[1]], line))
-            else:
-                new.append(line)
-        text = "\n".join(new)
+    if not names:
+        return
+    new = list(names.values())
+    taken = set(words(paths)) - SHARED
+    together = sorted(n for n in set(new) if n in taken or new.count(n) > 1)
+    if together:
+        raise SystemExit("these would fall together with others: " + ", ".join(together))
+    longest_first = sorted(map(re.escape, names), key=len, reverse=True)
+    pattern = re.compile(f"(?<!{LETTERS})({'|'.join(longest_first)})(?!{LETTERS})")
+    for path in paths:
+        old = lines(path)
+        text = [turned(path, line, lambda part: pattern.sub(lambda m: names[m[1]], part)) for line in old]
         if text != old:
-            open(p, "w", encoding="utf-8").write(text)
+            with open(path, "w", encoding="utf-8") as f:
+                f.write("\n".join(text))
 
-
-# names that would fall together with another, and what they are called instead
-SPECIAL = {}
-# names that may fall together with another: a function of src/ has the name of the definition that says what it answers
-ALLOWED = set("""
-    capacity_of combs_left deep_combs fourth_rows in_half join_refusal joint_name joint_nodes joint_row let_row most_names most_waiting passify_single passive_terms same_form shape_name single_row smaller_combs term_room term_row tree_left tree_rows worked_out
-""".split())
 
 main()

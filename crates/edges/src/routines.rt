@@ -1,4 +1,8 @@
 // The check at its limits.
+ghost use Rattle.std.specs.Prelude.{◌≡◌, ◌^◌, ◌<◌, [], ◌∷◌, length};
+ghost use Rattle.routine.specs.Decoding.{decode, verdict};
+ghost use Rattle.worked.specs.Tables.{assign_row};
+
 use crate::shapes::{chains, item, row, sum_of};
 use kinds::flags::Flag;
 use kinds::kind::Kind;
@@ -9,7 +13,9 @@ use routine::rows::TermRow;
 use std::test::Fail;
 
 // One command row over the terms: a set of v0.
-fn set_to(v: u32, terms: &[TermRow]) -> Result<(), Refusal> {
+fn set_to(v: u32, terms: &[TermRow]) -> Result<(), Refusal>
+    ensures { length terms.now < 2 ^ 32 → result ≡ verdict (decode v 5 (assign_row 0 0 (length terms.now) ∷ []) terms.now) }
+{
     let count = u32::try_from(terms.len()).unwrap_or(0);
     check::<Number>(v, &[row(3, 0, 0, count, 0)], terms)
 }

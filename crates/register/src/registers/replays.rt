@@ -48,7 +48,7 @@ impl<S: Store> Register<S> {
         terms: &mut [PassiveTermRow],
     ) -> Answer
         ensures answered { Answered S.Value.kind S.meaning S.steps (held self.old rows.old terms.old) (request_of request.entry) result (held self.new rows.new terms.new) }
-        ensures promise { GoesOn S.Value.kind S.meaning S.steps (held self.old rows.old terms.old) (exchange request.entry result ∷ []) (held self.new rows.new terms.new) }
+        ensures promise { GoesOn S.Value.kind S.meaning S.steps (held self.old rows.old terms.old) (exchange (request.entry) result ∷ []) (held self.new rows.new terms.new) }
     {
         self.perform(request, rows, terms)
     }
