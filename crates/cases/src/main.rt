@@ -20,26 +20,6 @@ use worked::{
     twelfth, worked_out,
 };
 
-const UNUSED: NodeRow = NodeRow {
-    tag: 0,
-    operation: 0,
-    first: 0,
-    second: 0,
-};
-
-const BLANK_ROW: PassiveRow = PassiveRow {
-    tag: 0,
-    f: Name(0),
-    from: 0,
-    count: 0,
-    left: 0,
-    n: Node(0),
-    x: Node(0),
-    w: Node(0),
-};
-
-const BLANK_TERM: PassiveTermRow = PassiveTermRow { tag: 0, number: 0 };
-
 // More names, rows, terms and places than any of the routines takes.
 const WIDTH: u32 = 16;
 
@@ -71,10 +51,13 @@ fn file(
     terms: &[TermRow],
     places: usize,
 ) -> anyhow::Result<Result<Filing, Refusal>> {
-    let store: TableStore<Number> = TableStore::new(vec![in rt.alloc(); UNUSED; places]?, WIDTH);
+    let store: TableStore<Number> = TableStore::new(
+        vec![in rt.alloc(); NodeRow::BLANK; places]?,
+        WIDTH,
+    );
     let mut register = Register::new(store, v);
-    let mut passive_rows = vec![in rt.alloc(); BLANK_ROW; ROWS]?;
-    let mut passive_terms = vec![in rt.alloc(); BLANK_TERM; TERMS]?;
+    let mut passive_rows = vec![in rt.alloc(); PassiveRow::BLANK; ROWS]?;
+    let mut passive_terms = vec![in rt.alloc(); PassiveTermRow::BLANK; TERMS]?;
     Ok(register.file(
         commands,
         terms,
@@ -142,8 +125,8 @@ fn condition_value(
     }
     let store: Evaluator<Number> = Evaluator::new(values, 2);
     let mut register = Register::new(store, routine.v);
-    let mut passive_rows = [BLANK_ROW; 8];
-    let mut passive_terms = [BLANK_TERM; 16];
+    let mut passive_rows = [PassiveRow::BLANK; 8];
+    let mut passive_terms = [PassiveTermRow::BLANK; 16];
     Ok(
         match register.file(
             routine.commands,
@@ -193,9 +176,9 @@ fn first_holds(rt: &HostRuntime) -> anyhow::Result<bool> {
 // The passive rows of C4 are raise, stop and a sequence of both.
 fn fourth_rows(rt: &HostRuntime) -> anyhow::Result<bool> {
     let Routine { v, commands, terms } = fourth();
-    let store: TableStore<Number> = TableStore::new(vec![in rt.alloc(); UNUSED; 6]?, 0);
+    let store: TableStore<Number> = TableStore::new(vec![in rt.alloc(); NodeRow::BLANK; 6]?, 0);
     let mut register = Register::new(store, v);
-    let mut rows = [BLANK_ROW; 3];
+    let mut rows = [PassiveRow::BLANK; 3];
     let found = register.file(commands, terms, &mut rows, &mut []);
     let same = same_filing(rt, found, filed(0, 3, 0, 6))?;
     let [raise, stop, sequence] = rows;

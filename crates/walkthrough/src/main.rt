@@ -78,26 +78,6 @@ fn show_damaged(rt: &HostRuntime) -> anyhow::Result<()> {
     )
 }
 
-const BLANK_ROW: PassiveRow = PassiveRow {
-    tag: 0,
-    f: Name(0),
-    from: 0,
-    count: 0,
-    left: 0,
-    n: Node(0),
-    x: Node(0),
-    w: Node(0),
-};
-
-const BLANK_TERM: PassiveTermRow = PassiveTermRow { tag: 0, number: 0 };
-
-const BLANK_NODE: NodeRow = NodeRow {
-    tag: 0,
-    operation: 0,
-    first: 0,
-    second: 0,
-};
-
 // The passive form, in tables of exactly the length that was measured.
 fn show_passive_form(
     rt: &HostRuntime,
@@ -116,8 +96,8 @@ fn show_passive_form(
     println!(rt;
         "It takes {names} names, {rows} rows, {places} term rows; its condition will take {nodes} nodes."
     )?;
-    let mut passive_rows = vec![in rt.alloc(); BLANK_ROW; rows as usize]?;
-    let mut passive_terms = vec![in rt.alloc(); BLANK_TERM; places as usize]?;
+    let mut passive_rows = vec![in rt.alloc(); PassiveRow::BLANK; rows as usize]?;
+    let mut passive_terms = vec![in rt.alloc(); PassiveTermRow::BLANK; places as usize]?;
     match passify::<Number>(
         2,
         commands,
@@ -138,8 +118,8 @@ fn condition_in<S: Store>(
     commands: &[CommandRow],
     terms: &[TermRow],
 ) -> anyhow::Result<(Condition, Vec<PassiveRow>)> {
-    let mut rows = vec![in rt.alloc(); BLANK_ROW; form.rows as usize]?;
-    let mut out = vec![in rt.alloc(); BLANK_TERM; form.terms as usize]?;
+    let mut rows = vec![in rt.alloc(); PassiveRow::BLANK; form.rows as usize]?;
+    let mut out = vec![in rt.alloc(); PassiveTermRow::BLANK; form.terms as usize]?;
     match make_condition(
         store,
         2,
@@ -160,7 +140,7 @@ fn show_nodes(
     commands: &[CommandRow],
     terms: &[TermRow],
 ) -> anyhow::Result<()> {
-    let nodes = vec![in rt.alloc(); BLANK_NODE; form.nodes as usize]?;
+    let nodes = vec![in rt.alloc(); NodeRow::BLANK; form.nodes as usize]?;
     let mut store: TableStore<Number> = TableStore::new(nodes, form.names);
     let (made, rows) = condition_in(rt, &mut store, form, commands, terms)?;
     let Condition { node, rise, .. } = made;
@@ -259,10 +239,10 @@ fn show_entry(
 
 // Replays the requests over a new table store, then shows the answers and the entries that stand.
 fn show_replay(rt: &HostRuntime, requests: &[Request<'_>]) -> anyhow::Result<()> {
-    let nodes = vec![in rt.alloc(); BLANK_NODE; 200]?;
+    let nodes = vec![in rt.alloc(); NodeRow::BLANK; 200]?;
     let store: TableStore<Number> = TableStore::new(nodes, 6);
-    let mut rows = vec![in rt.alloc(); BLANK_ROW; 23]?;
-    let mut terms = vec![in rt.alloc(); BLANK_TERM; 34]?;
+    let mut rows = vec![in rt.alloc(); PassiveRow::BLANK; 23]?;
+    let mut terms = vec![in rt.alloc(); PassiveTermRow::BLANK; 34]?;
     let mut answers = vec![in rt.alloc(); Answer::Marked; requests.len()]?;
     let register = replay(
         store,
