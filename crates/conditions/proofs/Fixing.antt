@@ -143,18 +143,18 @@ module _ {S : Type 0} (Alike : S → S → Type 0) (steps : S → Making → Nod
   whole_fixed {is = is} a x y = term_fixed is [] a (term_calls steps x) (term_calls steps y)
 
   single_fixed : {s s' t t' : S} {e e' : Ends} (p : PassiveSingle) → Alike s s' → SingleCalls steps s p t e → SingleCalls steps s' p t' e' → (e ≡ e') × Alike t t'
-  single_fixed {t' = t'} (p_assert is) a (u, n, w, x, h, is-e) (u', n', w', x', h', is-e') =
+  single_fixed {t' = t'} (p_assert is) a (u, n, w, x, h, is_e) (u', n', w', x', h', is_e') =
       let f = whole_fixed a x x' in
       let g = fixed f.1 h (subst (λ m. steps u' (make_not m) w' t') (sym f.0) h') in
-      (is-e ∙ (λ i. ends (f.0 i) node_no (g.0 i)) ∙ sym is-e', g.1)
-  single_fixed (p_assume is) a (n, x, is-e) (n', x', is-e') =
+      (is_e ∙ (λ i. ends (f.0 i) node_no (g.0 i)) ∙ sym is_e', g.1)
+  single_fixed (p_assume is) a (n, x, is_e) (n', x', is_e') =
       let f = whole_fixed a x x' in
-      (is-e ∙ ap (λ m. ends m node_no node_no) f.0 ∙ sym is-e', f.1)
-  single_fixed {t' = t'} (p_let f is) a (u, v, m, k, n, h, x, l, is-e) (u', v', m', k', n', h', x', l', is-e') =
+      (is_e ∙ ap (λ m. ends m node_no node_no) f.0 ∙ sym is_e', f.1)
+  single_fixed {t' = t'} (p_let f is) a (u, v, m, k, n, h, x, l, is_e) (u', v', m', k', n', h', x', l', is_e') =
       let i = fixed a h h' in
       let j = whole_fixed i.1 x x' in
       let o = fixed j.1 l (subst (λ z. steps v' (make_same m z) n' t') (sym j.0) (subst (λ z. steps v' (make_same z k') n' t') (sym i.0) l')) in
-      (is-e ∙ ap (λ z. ends z node_no node_no) o.0 ∙ sym is-e', o.1)
+      (is_e ∙ ap (λ z. ends z node_no node_no) o.0 ∙ sym is_e', o.1)
   single_fixed p_skip a (stay, x) (stay', y) = (x ∙ sym y, stayed a stay stay')
   single_fixed p_raise a (stay, x) (stay', y) = (x ∙ sym y, stayed a stay stay')
   single_fixed p_stop a (stay, x) (stay', y) = (x ∙ sym y, stayed a stay stay')

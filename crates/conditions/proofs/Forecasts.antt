@@ -96,7 +96,7 @@ module _ {V : Type 0} {S : Type 0} (K : KindOf V) (M : Meaning V S) (steps : S �
     (v : ℕ) (cs : List CommandRow) (ts : List TermRow) (s : S) (E E₁ : List PassiveRow) (T T₁ : List PassiveTermRow) (m : FormMeasures)
     (accepted : Ok m ≡ condition_answer M s (length E) (length T) v (decode v K.ops cs ts)) (l : FormLengths)
     (answered : Ok l ≡ passify_answer v (decode v K.ops cs ts) (length E) (length T))
-    (rows_written : E₁ ≡ rows_after v (decode v K.ops cs ts) (Ok l) E) (terms-written : T₁ ≡ terms_after v (decode v K.ops cs ts) (Ok l) T)
+    (rows_written : E₁ ≡ rows_after v (decode v K.ops cs ts) (Ok l) E) (terms_written : T₁ ≡ terms_after v (decode v K.ops cs ts) (Ok l) T)
   where
     seen : Forecast M s (length E) (length T) v (decode v K.ops cs ts) m
     seen = accepted_forecast M s (length E) (length T) v (decode v K.ops cs ts) m accepted
@@ -115,7 +115,7 @@ module _ {V : Type 0} {S : Type 0} (K : KindOf V) (M : Meaning V S) (steps : S �
     rows_are = rows_written ∙ ap (λ d. rows_after v d (Ok l) E) seen.decoded
 
     terms_are : T₁ ≡ put T 0 (term_rows form)
-    terms_are = terms-written ∙ ap (λ d. terms_after v d (Ok l) T) seen.decoded
+    terms_are = terms_written ∙ ap (λ d. terms_after v d (Ok l) T) seen.decoded
 
     rows_long : length (layout form 0 0) ≡ l.rows
     rows_long = length_layout form 0 0 ∙ ap (λ (x : FormLengths). x.rows) (sym lengths_are)

@@ -107,9 +107,9 @@ module _ {V : Type 0} {S : Type 0} (K : KindOf V) (M : Meaning V S) (steps : S �
             (subst (λ e. JointMade steps y.between o (ends_at ((done ++ xs) ++ ys) (i + rows p - 1)) e n.between n.nodes) (last_within (done ++ xs) y.front y.last)
             (subst (λ rd. RowMade steps y.between rd (ends_at ((done ++ xs) ++ ys) (i + rows p - 1)) (last_ends ((done ++ xs) ++ ys)) n.between n.nodes)
             (joint_reading o (i + rows p - 1) (items (part table row))) n.here)) in
-            let grew-last = row_grown K M steps lawful sound y.between n.between (joins o) (row_ends x.last) (row_ends y.last) n.nodes made in
-            let used-end = row_used K M steps lawful sound y.between n.between (joins o) (row_ends x.last) (row_ends y.last) n.nodes made in
-            let grew-right = grown_then M y.grown grew-last in
+            let grew_last = row_grown K M steps lawful sound y.between n.between (joins o) (row_ends x.last) (row_ends y.last) n.nodes made in
+            let used_end = row_used K M steps lawful sound y.between n.between (joins o) (row_ends x.last) (row_ends y.last) n.nodes made in
+            let grew_right = grown_then M y.grown grew_last in
             let same : (xs ++ ys) ++ (end ∷ []) ≡ xs ++ (ys ++ (end ∷ [])) = append_assoc xs ys (end ∷ []) in
             let covered : (a : Assignment V) → M.covers s a → M.covers x.between a = λ a cov. (x.grown.covers_same a).1 cov in
             let whole : (a : Assignment V) → M.covers s a → Says K M n.between a n.nodes (outcomes K a (p_join o p q)) =
@@ -125,16 +125,16 @@ module _ {V : Type 0} {S : Type 0} (K : KindOf V) (M : Meaning V S) (steps : S �
               front = xs ++ ys;
               last = end;
               many = omega (arith, length-append xs ys, length-append x.front (x.last ∷ []), length-append y.front (y.last ∷ []), x.many, y.many);
-              grown = grown_then M (grown_then M x.grown y.grown) grew-last;
+              grown = grown_then M (grown_then M x.grown y.grown) grew_last;
               used = subst (RowsUsed M n.between) (sym same)
-                  (used_append M n.between xs (ys ++ (end ∷ [])) (rows_later M xs grew-right x.used)
-                  (used_append M n.between ys (end ∷ []) (rows_later M ys grew-last y.used) (used-end, tt)));
+                  (used_append M n.between xs (ys ++ (end ∷ [])) (rows_later M xs grew_right x.used)
+                  (used_append M n.between ys (end ∷ []) (rows_later M ys grew_last y.used) (used_end, tt)));
               rows_say = λ a cov.
                   subst (λ rs. RowsSay K M n.between a rs (all_outcomes K a (p_join o p q))) (sym same)
                   (say_append K M n.between a xs (ys ++ (end ∷ [])) (all_outcomes K a p) _
-                  (say_later K M a xs (all_outcomes K a p) grew-right (covered a cov) x.used (x.rows_say a cov))
+                  (say_later K M a xs (all_outcomes K a p) grew_right (covered a cov) x.used (x.rows_say a cov))
                   (say_append K M n.between a ys (end ∷ []) (all_outcomes K a q) _
-                  (say_later K M a ys (all_outcomes K a q) grew-last ((y.grown.covers_same a).1 (covered a cov)) y.used (y.rows_say a (covered a cov)))
+                  (say_later K M a ys (all_outcomes K a q) grew_last ((y.grown.covers_same a).1 (covered a cov)) y.used (y.rows_say a (covered a cov)))
                   (whole a cov, tt)));
               says = whole;
               left = subst (λ rs. RowsMade steps table n.between rs rest t all)

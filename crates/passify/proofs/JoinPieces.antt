@@ -87,19 +87,19 @@ module _ (j : Joint) (a b : Passified) where
       first_room room = room_first first_piece (left_side i1 j1) (room_two room)
 
 -- what the code knows of two parts whose passive forms are a and b, joined by j
-module _ (v : ℕ) (j : Joint) (a b : Passified) (l r : Measured) (is-l : sizes_of v l ≡ sizes a) (is-r : sizes_of v r ≡ sizes b) (out : Leaving)
-    (leaves-n : names_of v out.normal ≡ leaves_normal j (names_of v l.normal))
-    (leaves-x : names_of v out.raised ≡ leaves_raised j (names_of v l.raised))
+module _ (v : ℕ) (j : Joint) (a b : Passified) (l r : Measured) (is_l : sizes_of v l ≡ sizes a) (is_r : sizes_of v r ≡ sizes b) (out : Leaving)
+    (leaves_n : names_of v out.normal ≡ leaves_normal j (names_of v l.normal))
+    (leaves_x : names_of v out.raised ≡ leaves_raised j (names_of v l.raised))
   where
     n_is : merged v out.normal r.normal r.next ≡ normal_merge j a b
     n_is =
-        let e = leaves-n ∙ ap (λ (s : Sizes). leaves_normal j s.normal) is-l in
-        λ t. merge (e t) (is-r t).normal (is-r t).next
+        let e = leaves_n ∙ ap (λ (s : Sizes). leaves_normal j s.normal) is_l in
+        λ t. merge (e t) (is_r t).normal (is_r t).next
 
     x_is : merged v out.raised r.raised (next_after v out.normal r.normal r.next) ≡ raised_merge j a b
     x_is =
-        let e = leaves-x ∙ ap (λ (s : Sizes). leaves_raised j s.raised) is-l in
-        λ t. merge (e t) (is-r t).raised (n_is t).next
+        let e = leaves_x ∙ ap (λ (s : Sizes). leaves_raised j s.raised) is_l in
+        λ t. merge (e t) (is_r t).raised (n_is t).next
 
     -- the same two maps, from the right part
     n_swapped : (renamings v r.normal out.normal r.next ≡ (normal_merge j a b).right) × (next_after v r.normal out.normal r.next ≡ (normal_merge j a b).next)
@@ -132,7 +132,7 @@ module _ (v : ℕ) (j : Joint) (a b : Passified) (l r : Measured) (is-l : sizes_
     -- written one behind another
     module _ (s : Place) (E : List PassiveRow) (T : List PassiveTermRow) where
       module _ (E1 : List PassiveRow) (T1 : List PassiveTermRow) (p1 : Place) (w1 : Wrote (first_piece j a b s) s E E1 T T1 p1)
-          (in_rows : s.row ≤ length E) (in-terms : s.term ≤ length T)
+          (in_rows : s.row ≤ length E) (in_terms : s.term ≤ length T)
         where
           e1 : p1.row ≡ (i1 j a b s)
           e1 = w1.row_end ∙ ap (λ n. s.row + n) (length_layout a.code s.row s.term)
@@ -153,7 +153,7 @@ module _ (v : ℕ) (j : Joint) (a b : Passified) (l r : Measured) (is-l : sizes_
               (u2 : Wrote (side v out.normal r.normal out.raised r.raised r.next p1) p1 E1 E2 T1 T2 p2)
             where
               w2 : Wrote (two j a b s) s E E2 T T2 p2
-              w2 = wrote_then w1 (wrote_as left_there u2) in_rows in-terms
+              w2 = wrote_then w1 (wrote_as left_there u2) in_rows in_terms
 
               e2 : p2.row ≡ (i2 j a b s)
               e2 = (wrote_as left_there u2).row_end ∙ ap (λ n. n + length (left_side j a b (i1 j a b s) (j1 j a b s)).rows) e1
@@ -172,7 +172,7 @@ module _ (v : ℕ) (j : Joint) (a b : Passified) (l r : Measured) (is-l : sizes_
 
               module _ (E3 : List PassiveRow) (T3 : List PassiveTermRow) (p3 : Place) (u3 : Wrote (form_piece b.code p2.row p2.term) p2 E2 E3 T2 T3 p3) where
                 w3 : Wrote (three j a b s) s E E3 T T3 p3
-                w3 = wrote_then w2 (wrote_as second_there u3) in_rows in-terms
+                w3 = wrote_then w2 (wrote_as second_there u3) in_rows in_terms
 
                 e3 : p3.row ≡ (i3 j a b s)
                 e3 = u3.row_end ∙ (λ t. e2 t + length_layout b.code p2.row p2.term t)
@@ -193,7 +193,7 @@ module _ (v : ℕ) (j : Joint) (a b : Passified) (l r : Measured) (is-l : sizes_
                     (u4 : Wrote (side v r.normal out.normal r.raised out.raised r.next p3) p3 E3 E4 T3 T4 p4)
                   where
                     w4 : Wrote (four j a b s) s E E4 T T4 p4
-                    w4 = wrote_then w3 (wrote_as right_there u4) in_rows in-terms
+                    w4 = wrote_then w3 (wrote_as right_there u4) in_rows in_terms
 
                     pub last_room : (WholeRoom j a b s E T) → Room (last_row j a b s) p4 E4 T4
                     last_room room = room_second (four j a b s) (last_row j a b s) w4 (room_as (whole_is j a b s) room)
@@ -203,4 +203,4 @@ module _ (v : ℕ) (j : Joint) (a b : Passified) (l r : Measured) (is-l : sizes_
                         → Wrote (one_row row) p4 E4 E5 T4 T4 p5 → Wrote (form_piece (joined j a b).code s.row s.term) s E E5 T T4 p5
                     whole_written E5 p5 row is u5 =
                         wrote_as (sym (whole_is j a b s))
-                        (wrote_then w4 (wrote_as (ap one_row (is ∙ ap (λ n. joint_row (joint_tag j) (n - 1)) e2)) u5) in_rows in-terms)
+                        (wrote_then w4 (wrote_as (ap one_row (is ∙ ap (λ n. joint_row (joint_tag j) (n - 1)) e2)) u5) in_rows in_terms)

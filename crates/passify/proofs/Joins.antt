@@ -12,8 +12,8 @@ use Rattle.passify.proofs.Sizes.{merge_up}
 
 -- the left part leaves the whole as the joint says
 module _ (v : ℕ) (left right : Measured) (out : Leaving) (j : Joint)
-    (leaves-n : names_of v out.normal ≡ leaves_normal j (names_of v left.normal))
-    (leaves-x : names_of v out.raised ≡ leaves_raised j (names_of v left.raised))
+    (leaves_n : names_of v out.normal ≡ leaves_normal j (names_of v left.normal))
+    (leaves_x : names_of v out.raised ≡ leaves_raised j (names_of v left.raised))
   where
     abbrev n_merge : Merge
     n_merge = merge (leaves_normal j (names_of v left.normal)) (names_of v right.normal) right.next
@@ -22,7 +22,7 @@ module _ (v : ℕ) (left right : Measured) (out : Leaving) (j : Joint)
     x_merge = merge (leaves_raised j (names_of v left.raised)) (names_of v right.raised) n_merge.next
 
     n_is : merged v out.normal right.normal right.next ≡ n_merge
-    n_is = ap (λ (m : Names). merge m (names_of v right.normal) right.next) leaves-n
+    n_is = ap (λ (m : Names). merge m (names_of v right.normal) right.next) leaves_n
 
     pub n_room : Fits (joined_sizes j (sizes_of v left) (sizes_of v right)) → (merged v out.normal right.normal right.next).next ≤ 2 ^ 16
     n_room f =
@@ -31,7 +31,7 @@ module _ (v : ℕ) (left right : Measured) (out : Leaving) (j : Joint)
 
     module _ (n : Merging) (mn : Merges v n (merged v out.normal right.normal right.next)) where
       x_is : merged v out.raised right.raised n.next ≡ x_merge
-      x_is = λ i. merge (leaves-x i) (names_of v right.raised) ((mn.next ∙ ap (λ (m : Merge). m.next) n_is) i)
+      x_is = λ i. merge (leaves_x i) (names_of v right.raised) ((mn.next ∙ ap (λ (m : Merge). m.next) n_is) i)
 
       pub x_room : Fits (joined_sizes j (sizes_of v left) (sizes_of v right)) → (merged v out.raised right.raised n.next).next ≤ 2 ^ 16
       x_room f = omega (arith, f.few_names, ap (λ (m : Merge). m.next) x_is)

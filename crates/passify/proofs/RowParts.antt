@@ -121,9 +121,9 @@ module _ (v : ℕ) (cs : List CommandRow) (ts : List TermRow) (i : ℕ) (k : ℕ
                 (ops : ℕ) (c : Command) (p : Parts v ops cs ts i c)
                 → joined_sizes p.joint (sizes_of v l) (sizes_of v r) ≡ measured c (Some (map_of v m)) k
             whole_is ops c p =
-                let is-left = ml ops p.first p.at_left in
+                let is_left = ml ops p.first p.at_left in
                 let is_right = mr ops p.second p.at_right ∙ right_is ops c p in
-                (λ t. joined_sizes p.joint (is-left t) (is_right t)) ∙ ap (λ (x : Command). measured x (Some (map_of v m)) k) (sym p.is)
+                (λ t. joined_sizes p.joint (is_left t) (is_right t)) ∙ ap (λ (x : Command). measured x (Some (map_of v m)) k) (sym p.is)
 
             pub joined_fits : Measurable v cs ts i (Some m) k → SomeJoint (at cs i).tag (λ j. Fits (joined_sizes j (sizes_of v l) (sizes_of v r)))
             joined_fits (ops, c, e, f) =

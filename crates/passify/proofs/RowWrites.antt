@@ -17,7 +17,7 @@ use Rattle.passify.specs.Measuring.{Sizes, sizes, joined_sizes, measured, Fits, 
 use Rattle.passify.specs.Pieces.{Piece, one_row, form_piece, Wrote, Room}
 use Rattle.passify.specs.Writing.{next_after, side, single_piece, SingleWritable, command_piece, Writable, Written}
 use Rattle.passify.proofs.Sizes.{sizes_joined, measured_is}
-use Rattle.passify.proofs.RowParts.{at, Parts, parts, alone, single_measured, fit_both, right_measurable, right_is as parts-right, joined_measures}
+use Rattle.passify.proofs.RowParts.{at, Parts, parts, alone, single_measured, fit_both, right_measurable, right_is as parts_right, joined_measures}
 use Rattle.passify.proofs.JoinPieces.{left_names, right_names, first_room, left_behind, left_room, middle_behind, second_room, right_behind, right_room, last_room, whole_written}
 
 -- what the renamings of one part ask
@@ -120,8 +120,8 @@ module _ (v : ℕ) (cs : List CommandRow) (ts : List TermRow) (i k : ℕ) (s : P
           right_measured (ops, c, e, f, room) = right_measurable v cs ts i k m big left.measured left_measures start enters (ops, c, e, f)
 
           module _ (r : Measured) (mr : Measures v cs ts (i - 1) start left.measured.next r) (out : Leaving)
-              (leaves-n : AtJoint (at cs i).tag (λ j. (v : ℕ) → names_of v out.normal ≡ leaves_normal j (names_of v left.measured.normal)))
-              (leaves-x : AtJoint (at cs i).tag (λ j. (v : ℕ) → names_of v out.raised ≡ leaves_raised j (names_of v left.measured.raised)))
+              (leaves_n : AtJoint (at cs i).tag (λ j. (v : ℕ) → names_of v out.normal ≡ leaves_normal j (names_of v left.measured.normal)))
+              (leaves_x : AtJoint (at cs i).tag (λ j. (v : ℕ) → names_of v out.raised ≡ leaves_raised j (names_of v left.measured.raised)))
             where
               -- of the command c, whose parts are p
               module _ (ops : ℕ) (c : Command) (p : Parts v ops cs ts i c) where
@@ -149,10 +149,10 @@ module _ (v : ℕ) (cs : List CommandRow) (ts : List TermRow) (i k : ℕ) (s : P
                 w1 = (wl ops p.first p.at_left).1
 
                 ln : names_of v out.normal ≡ leaves_normal j (names_of v left.measured.normal)
-                ln = leaves-n j p.tagged v
+                ln = leaves_n j p.tagged v
 
                 lx : names_of v out.raised ≡ leaves_raised j (names_of v left.measured.raised)
-                lx = leaves-x j p.tagged v
+                lx = leaves_x j p.tagged v
 
               pub left_side_room : Writable v cs ts i (Some m) k s E T → SideRoom v out.normal r.normal out.raised r.raised r.next left.end E1 T1
               left_side_room w =
@@ -182,7 +182,7 @@ module _ (v : ℕ) (cs : List CommandRow) (ts : List TermRow) (i k : ℕ) (s : P
                         ops,
                         p.second,
                         p.at_right,
-                        subst Fits (sym (parts-right v cs ts i k m big left.measured left_measures start enters ops c p)) (fit_both v cs ts i k m big ops c p w.3).1,
+                        subst Fits (sym (parts_right v cs ts i k m big left.measured left_measures start enters ops c p)) (fit_both v cs ts i k m big ops c p w.3).1,
                         subst (λ (x : Passified). Room (form_piece x.code p2.row p2.term) p2 E2 T2) (sym (second_is ops c p))
                             (second_room v p.joint (pa ops c p) (pb ops c p) left.measured r (left_is ops c p) (right_is ops c p) out (ln ops c p) (lx ops c p) s E T E1 T1 left.end
                             (w1 ops c p) h.0 h.1 E2 T2 p2 u2 (whole_room ops c p w.4)),

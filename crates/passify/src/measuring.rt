@@ -1,7 +1,7 @@
 // Measuring: what the passive form of a command takes, and the maps that it ends with.
 ghost use Rattle.std.specs.Prelude.{◌≡◌, ℕ, ◌+◌, ◌^◌, ◌<◌, ◌≤◌, List, Some, None};
-ghost use Rattle.passive.specs.Passive.{passify_single, entry as entry-map, leaves_normal, leaves_raised};
-ghost use Rattle.passive.specs.Outcomes.{joint_nodes as nodes-of-joint};
+ghost use Rattle.passive.specs.Passive.{passify_single, entry as entry_map, leaves_normal, leaves_raised};
+ghost use Rattle.passive.specs.Outcomes.{joint_nodes as nodes_of_joint};
 ghost use Rattle.passify.specs.Names.{map_of, names_of};
 ghost use Rattle.passify.specs.Measuring.{guard_rows, guard_nodes, joined_sizes, sizes, Fits, sizes_of, AtSingle, SomeSingle, Measurable, Measures, AtJoint, SomeJoint};
 
@@ -74,7 +74,7 @@ pub fn measure_single(row: CommandRow, v: u32, m: NameMap, next: u32) -> Measure
 
 // What the right part starts from.
 pub fn entry(tag: u32, m: NameMap, left: Measured) -> Option<NameMap>
-    ensures { AtJoint tag (λ j. (v : ℕ) → names_of v result ≡ entry-map j (map_of v m) (names_of v left.normal) (names_of v left.raised)) }
+    ensures { AtJoint tag (λ j. (v : ℕ) → names_of v result ≡ entry_map j (map_of v m) (names_of v left.normal) (names_of v left.raised)) }
 {
     match tag {
         6 => left.normal,
@@ -101,7 +101,7 @@ pub fn left_exits(tag: u32, left: Measured) -> Leaving
 }
 
 fn joint_nodes(tag: u32) -> u32
-    ensures { AtJoint tag (λ j. result ≡ nodes-of-joint j) }
+    ensures { AtJoint tag (λ j. result ≡ nodes_of_joint j) }
 {
     if tag == 7 { 3 } else { 5 }
 }

@@ -2,7 +2,7 @@
 ghost use Rattle.std.specs.Prelude.{◌≡◌, ℕ, ◌+◌, ◌^◌, ◌<◌, ◌≤◌, List, [], ◌∷◌, map, length};
 ghost use Rattle.routine.specs.Decoding.{item};
 ghost use Rattle.passive.specs.Passive.{renamed, rename, passify_single};
-ghost use Rattle.passive.specs.Layout.{term_row as row-of-item, layout, put};
+ghost use Rattle.passive.specs.Layout.{term_row as row_of_item, layout, put};
 ghost use Rattle.passify.specs.Names.{map_of};
 ghost use Rattle.passify.specs.Measuring.{AtSingle, SomeSingle};
 ghost use Rattle.passify.specs.Pieces.{Wrote};
@@ -20,7 +20,7 @@ use routine::rows::{CommandRow, TermRow};
 // A term row with the name of its variable.
 fn rename_row(row: TermRow, v: u32, m: &NameMap) -> PassiveTermRow
     requires { v ≤ 32 }
-    ensures { result ≡ row-of-item (renamed (map_of v m.now) (item row)) }
+    ensures { result ≡ row_of_item (renamed (map_of v m.now) (item row)) }
 {
     match row.tag {
         1 => PassiveTermRow {
@@ -42,7 +42,7 @@ fn rename_row(row: TermRow, v: u32, m: &NameMap) -> PassiveTermRow
 fn rename_term(rows: &[TermRow], v: u32, m: &NameMap, out: &mut [PassiveTermRow], at: u32)
     requires few { v ≤ 32 }
     requires room { at + length rows.now ≤ length out.old }
-    ensures { out.new ≡ put out.old at (map row-of-item (rename (map_of v m.now) (map item rows.now))) }
+    ensures { out.new ≡ put out.old at (map row_of_item (rename (map_of v m.now) (map item rows.now))) }
 {
     let mut next = at as usize;
     for row in rows {

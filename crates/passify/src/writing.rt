@@ -1,7 +1,7 @@
 // Writing into the two tables of a passive form: rows, and the renamings that stand behind a part of a joined command.
 ghost use Rattle.std.specs.Prelude.{◌≡◌, ℕ, ◌+◌, ◌^◌, ◌<◌, ◌≤◌, List, length, Some};
 ghost use Rattle.passive.specs.Passive.{name};
-ghost use Rattle.passive.specs.Layout.{passive_row, joint_row as row-of-joint, plain_row as row-of-tag};
+ghost use Rattle.passive.specs.Layout.{passive_row, joint_row as row_of_joint};
 ghost use Rattle.passify.specs.Pieces.{one_row, let_piece, next_let, lets_piece, tail_piece, guard_piece, Wrote, Room};
 ghost use Rattle.passify.specs.Writing.{renamings, next_after, side};
 
@@ -34,7 +34,7 @@ pub fn term_row(tag: u32, f: Name, from: u32, count: u32) -> PassiveRow
 
 // A row that joins two parts.
 pub fn joint_row(tag: u32, left: u32) -> PassiveRow
-    ensures { result ≡ row-of-joint tag left }
+    ensures { result ≡ row_of_joint tag left }
 {
     PassiveRow {
         left,
