@@ -15,36 +15,47 @@ use routine::rows::{CommandRow, TermRow};
 use std::test::Fail;
 use worked::{Routine, first, second};
 
+const UNUSED: NodeRow = NodeRow {
+    tag: 0,
+    operation: 0,
+    first: 0,
+    second: 0,
+};
+
+const BLANK_ROW: PassiveRow = PassiveRow {
+    tag: 0,
+    f: Name(0),
+    from: 0,
+    count: 0,
+    left: 0,
+    n: Node(0),
+    x: Node(0),
+    w: Node(0),
+};
+
+const BLANK_TERM: PassiveTermRow = PassiveTermRow { tag: 0, number: 0 };
+
 // Exactly the places that were measured suffice; one fewer is refused, and store and table are as before. So are too few names and rows.
 #[test]
 fn places_and_tables(rt: HostRuntime) -> Result<(), Fail> {
     let Routine { v, commands, terms } = first();
-    let mut rows = [PassiveRow::BLANK; 5];
-    let mut out = [PassiveTermRow::BLANK; 11];
-    let mut store: TableStore<Number> = TableStore::new(
-        vec![in rt.alloc(); NodeRow::BLANK; 24]?,
-        2,
-    );
+    let mut rows = [BLANK_ROW; 5];
+    let mut out = [BLANK_TERM; 11];
+    let mut store: TableStore<Number> = TableStore::new(vec![in rt.alloc(); UNUSED; 24]?, 2);
     let answer = make_condition(&mut store, v, commands, terms, &mut rows, &mut out);
     assert_eq!(rt; answer, Err(Refusal::Places));
     assert_eq!(rt; store.count(), 2);
-    assert!(rt; rows[0] == PassiveRow::BLANK);
-    let mut store: TableStore<Number> = TableStore::new(
-        vec![in rt.alloc(); NodeRow::BLANK; 25]?,
-        1,
-    );
+    assert!(rt; rows[0] == BLANK_ROW);
+    let mut store: TableStore<Number> = TableStore::new(vec![in rt.alloc(); UNUSED; 25]?, 1);
     let answer = make_condition(&mut store, v, commands, terms, &mut rows, &mut out);
     assert_eq!(rt; answer, Err(Refusal::Names));
-    let mut store: TableStore<Number> = TableStore::new(
-        vec![in rt.alloc(); NodeRow::BLANK; 25]?,
-        2,
-    );
+    let mut store: TableStore<Number> = TableStore::new(vec![in rt.alloc(); UNUSED; 25]?, 2);
     let answer = make_condition(
         &mut store,
         v,
         commands,
         terms,
-        &mut [PassiveRow::BLANK; 4],
+        &mut [BLANK_ROW; 4],
         &mut out,
     );
     assert_eq!(rt; answer, Err(Refusal::WorkTable));
@@ -54,7 +65,7 @@ fn places_and_tables(rt: HostRuntime) -> Result<(), Fail> {
         commands,
         terms,
         &mut rows,
-        &mut [PassiveTermRow::BLANK; 10],
+        &mut [BLANK_TERM; 10],
     );
     assert_eq!(rt; answer, Err(Refusal::WorkTable));
     assert_eq!(rt; store.count(), 2);
@@ -68,8 +79,8 @@ fn places_and_tables(rt: HostRuntime) -> Result<(), Fail> {
 // A condition over flags: operation 15 is yes for any two flags, and there is no operation 16.
 #[test]
 fn flags(rt: HostRuntime) -> Result<(), Fail> {
-    let mut rows = [PassiveRow::BLANK; 1];
-    let mut out = [PassiveTermRow::BLANK; 5];
+    let mut rows = [BLANK_ROW; 1];
+    let mut out = [BLANK_TERM; 5];
     let commands = [row(1, 0, 0, 5, 0)];
     let terms = [item(2, 0), item(2, 0), item(2, 0), item(3, 15), item(3, 15)];
     let values = vec![in rt.alloc(); Flag(true); 8]?;
@@ -93,9 +104,9 @@ fn flags(rt: HostRuntime) -> Result<(), Fail> {
 // The same tables filed again, changed in place: the first entry still says what it said.
 #[test]
 fn changed_in_place(rt: HostRuntime) -> Result<(), Fail> {
-    let mut rows = [PassiveRow::BLANK; 5];
-    let mut out = [PassiveTermRow::BLANK; 11];
-    let store: TableStore<Number> = TableStore::new(vec![in rt.alloc(); NodeRow::BLANK; 40]?, 2);
+    let mut rows = [BLANK_ROW; 5];
+    let mut out = [BLANK_TERM; 11];
+    let store: TableStore<Number> = TableStore::new(vec![in rt.alloc(); UNUSED; 40]?, 2);
     let mut register = Register::new(store, 0);
     let mut commands = [row(1, 0, 0, 1, 0)];
     let terms = [item(1, 1)];
@@ -126,9 +137,9 @@ fn changed_in_place(rt: HostRuntime) -> Result<(), Fail> {
 // An entry joined with itself, a join joined, a struck entry in a join.
 #[test]
 fn joins(rt: HostRuntime) -> Result<(), Fail> {
-    let mut rows = [PassiveRow::BLANK; 5];
-    let mut out = [PassiveTermRow::BLANK; 11];
-    let store: TableStore<Number> = TableStore::new(vec![in rt.alloc(); NodeRow::BLANK; 60]?, 2);
+    let mut rows = [BLANK_ROW; 5];
+    let mut out = [BLANK_TERM; 11];
+    let store: TableStore<Number> = TableStore::new(vec![in rt.alloc(); UNUSED; 60]?, 2);
     let mut register = Register::new(store, 1);
     let Routine {
         commands,
@@ -170,10 +181,10 @@ fn joins(rt: HostRuntime) -> Result<(), Fail> {
 // The 64th entry is the last; on a full store the places are tried first.
 #[test]
 fn full(rt: HostRuntime) -> Result<(), Fail> {
-    let mut rows = [PassiveRow::BLANK; 5];
-    let mut out = [PassiveTermRow::BLANK; 11];
+    let mut rows = [BLANK_ROW; 5];
+    let mut out = [BLANK_TERM; 11];
     let skip = [row(4, 0, 0, 0, 0)];
-    let store: TableStore<Number> = TableStore::new(vec![in rt.alloc(); NodeRow::BLANK; 65]?, 0);
+    let store: TableStore<Number> = TableStore::new(vec![in rt.alloc(); UNUSED; 65]?, 0);
     let mut register = Register::new(store, 0);
     assert!(rt; register.file(&skip, &[], &mut rows, &mut out).is_ok());
     for _ in 0..63 {
@@ -185,7 +196,7 @@ fn full(rt: HostRuntime) -> Result<(), Fail> {
         Err(Refusal::Entries)
     );
     assert_eq!(rt; register.store().count(), 66);
-    let store: TableStore<Number> = TableStore::new(vec![in rt.alloc(); NodeRow::BLANK; 1]?, 0);
+    let store: TableStore<Number> = TableStore::new(vec![in rt.alloc(); UNUSED; 1]?, 0);
     let mut register = Register::new(store, 0);
     assert!(rt; register.file(&skip, &[], &mut rows, &mut out).is_ok());
     assert_eq!(rt; register.join(0, 0), Err(Refusal::Places));
