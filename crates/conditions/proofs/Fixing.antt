@@ -2,7 +2,11 @@
 use Rattle.std.proofs.Common.{◌≡◌, List, [], ◌∷◌, ◌++◌, sym, refl, ap, ◌∙◌, subst}
 use Rattle.kinds.specs.declared.numbered.Name.{Name}
 use Rattle.kinds.specs.declared.numbered.Node.{Node}
-use Rattle.routine.specs.Commands.{Item, literal, reference, operation, Term, Joint, sequence, choice, catch}
+use Rattle.routine.specs.declared.rows.Item.{Item}
+use Rattle.routine.specs.declared.rows.Item.TheVariants.{Literal, Reference, Operation}
+use Rattle.routine.specs.declared.rows.Joint.{Joint}
+use Rattle.routine.specs.declared.rows.Joint.TheVariants.{Sequence, Choice, Catch}
+use Rattle.routine.specs.Commands.{Term}
 use Rattle.passive.specs.Passive.{PassiveSingle, p_assert, p_assume, p_let, p_skip, p_raise, p_stop}
 use Rattle.passive.specs.Layout.{layout, term_rows}
 use Rattle.passive.specs.declared.rows.PassiveTermRow.{PassiveTermRow}
@@ -25,11 +29,11 @@ module _ {S : Type 0} (steps : S → Making → Node → S → Type 0) where
   OneMore s c waiting t after = (n : Node) × steps s c n t × (after ≡ n ∷ waiting)
 
   abbrev ItemCalls : S → List Node → Item Name → S → List Node → Type 0
-  ItemCalls s waiting (literal k) t after = OneMore s (make_literal k) waiting t after
-  ItemCalls s waiting (reference f) t after = OneMore s (make_name f) waiting t after
-  ItemCalls s [] (operation k) t after = ⊥
-  ItemCalls s (q ∷ []) (operation k) t after = ⊥
-  ItemCalls s (q ∷ (p ∷ waiting)) (operation k) t after = OneMore s (make_operation k p q) waiting t after
+  ItemCalls s waiting (Literal k) t after = OneMore s (make_literal k) waiting t after
+  ItemCalls s waiting (Reference f) t after = OneMore s (make_name f) waiting t after
+  ItemCalls s [] (Operation k) t after = ⊥
+  ItemCalls s (q ∷ []) (Operation k) t after = ⊥
+  ItemCalls s (q ∷ (p ∷ waiting)) (Operation k) t after = OneMore s (make_operation k p q) waiting t after
 
   item_calls : {s t : S} {waiting after : List Node} {i : Item Name} → ItemMade steps s waiting i t after → ItemCalls s waiting i t after
   item_calls (literal_made {n = n} h) = (n, h, refl)
@@ -87,9 +91,9 @@ module _ {S : Type 0} (steps : S → Making → Node → S → Type 0) where
   OrAnd p q r s t n = OrAndMade steps s p q r t n
 
   abbrev JointCalls : S → Joint → Ends → Ends → S → Ends → Type 0
-  JointCalls s sequence a b t e = InTurn (Call (make_and a.N b.N)) (OrAnd a.X a.N b.X) (OrAnd a.W a.N b.W) s t e
-  JointCalls s catch a b t e = InTurn (OrAnd a.N a.X b.N) (Call (make_and a.X b.X)) (OrAnd a.W a.X b.W) s t e
-  JointCalls s choice a b t e = InTurn (Call (make_or a.N b.N)) (Call (make_or a.X b.X)) (Call (make_or a.W b.W)) s t e
+  JointCalls s Sequence a b t e = InTurn (Call (make_and a.N b.N)) (OrAnd a.X a.N b.X) (OrAnd a.W a.N b.W) s t e
+  JointCalls s Catch a b t e = InTurn (OrAnd a.N a.X b.N) (Call (make_and a.X b.X)) (OrAnd a.W a.X b.W) s t e
+  JointCalls s Choice a b t e = InTurn (Call (make_or a.N b.N)) (Call (make_or a.X b.X)) (Call (make_or a.W b.W)) s t e
 
   joint_calls : {s t : S} {j : Joint} {a b e : Ends} → JointMade steps s j a b t e → JointCalls s j a b t e
   joint_calls (sequence_made {u = u} {v = v} {n = n} {x = x} {w = w} h k l) =
@@ -126,11 +130,11 @@ module _ {S : Type 0} (Alike : S → S → Type 0) (steps : S → Making → Nod
 
   item_fixed : {s s' t t' : S} {after after' : List Node} (i : Item Name) (waiting : List Node) → Alike s s'
       → ItemCalls steps s waiting i t after → ItemCalls steps s' waiting i t' after' → (after ≡ after') × Alike t t'
-  item_fixed (literal k) waiting a x y = one_more_fixed a x y
-  item_fixed (reference f) waiting a x y = one_more_fixed a x y
-  item_fixed (operation k) [] a x y = absurd x
-  item_fixed (operation k) (q ∷ []) a x y = absurd x
-  item_fixed (operation k) (q ∷ (p ∷ waiting)) a x y = one_more_fixed a x y
+  item_fixed (Literal k) waiting a x y = one_more_fixed a x y
+  item_fixed (Reference f) waiting a x y = one_more_fixed a x y
+  item_fixed (Operation k) [] a x y = absurd x
+  item_fixed (Operation k) (q ∷ []) a x y = absurd x
+  item_fixed (Operation k) (q ∷ (p ∷ waiting)) a x y = one_more_fixed a x y
 
   term_fixed : (is : Term Name) (waiting : List Node) {s s' t t' : S} {n n' : Node} → Alike s s'
       → TermCalls steps s waiting is t n → TermCalls steps s' waiting is t' n' → (n ≡ n') × Alike t t'
@@ -183,13 +187,13 @@ module _ {S : Type 0} (Alike : S → S → Type 0) (steps : S → Making → Nod
       (x.are ∙ (λ i. ends (f.0 i) (g.0 i) (h.0 i)) ∙ sym y.are, h.1)
 
   joint_fixed : {s s' t t' : S} {e e' : Ends} (j : Joint) (l r : Ends) → Alike s s' → JointCalls steps s j l r t e → JointCalls steps s' j l r t' e' → (e ≡ e') × Alike t t'
-  joint_fixed sequence l r a x y =
+  joint_fixed Sequence l r a x y =
       turns_fixed (Call steps (make_and l.N r.N)) (OrAnd steps l.X l.N r.X) (OrAnd steps l.W l.N r.W)
       (steady_call (make_and l.N r.N)) (steady_or_and l.X l.N r.X) (steady_or_and l.W l.N r.W) a x y
-  joint_fixed catch l r a x y =
+  joint_fixed Catch l r a x y =
       turns_fixed (OrAnd steps l.N l.X r.N) (Call steps (make_and l.X r.X)) (OrAnd steps l.W l.X r.W)
       (steady_or_and l.N l.X r.N) (steady_call (make_and l.X r.X)) (steady_or_and l.W l.X r.W) a x y
-  joint_fixed choice l r a x y =
+  joint_fixed Choice l r a x y =
       turns_fixed (Call steps (make_or l.N r.N)) (Call steps (make_or l.X r.X)) (Call steps (make_or l.W r.W))
       (steady_call (make_or l.N r.N)) (steady_call (make_or l.X r.X)) (steady_call (make_or l.W r.W)) a x y
 

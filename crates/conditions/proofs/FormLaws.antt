@@ -3,7 +3,7 @@ use Rattle.std.proofs.Common.{◌≡◌, ℕ, ◌+◌, ◌-◌, List, [], ◌∷
 use Rattle.std.proofs.lemmas.List.{get_or_at}
 use Rattle.kinds.specs.Kind.{KindOf}
 use Rattle.kinds.specs.declared.numbered.Node.{Node}
-use Rattle.routine.specs.Commands.{Joint}
+use Rattle.routine.specs.declared.rows.Joint.{Joint}
 use Rattle.routine.specs.Standing.{joint_tag}
 use Rattle.passive.specs.Passive.{PassiveSingle, Passive, p_single, p_join}
 use Rattle.passive.specs.Outcomes.{Assignment, Outcomes, outcomes, nodes}

@@ -3,24 +3,25 @@ use Rattle.std.proofs.Common.{◌≡◌, ℕ, ◌+◌, ◌-◌, eqb, ◌≢◌, 
 use Rattle.std.proofs.lemmas.Bool.{ne_eqb, cond-false}
 use Rattle.kinds.specs.declared.numbered.Name.{Name}
 use Rattle.kinds.specs.declared.numbered.Node.{Node}
-use Rattle.routine.specs.Commands.{Item, literal, reference, operation}
+use Rattle.routine.specs.declared.rows.Item.{Item}
+use Rattle.routine.specs.declared.rows.Item.TheVariants.{Literal, Reference, Operation}
 use Rattle.passive.specs.Passive.{name}
 use Rattle.passive.specs.declared.rows.PassiveTermRow.{PassiveTermRow}
 use Rattle.formula.specs.Store.{Making}
 use Rattle.conditions.specs.declared.making.Call.{Call}
 use Rattle.conditions.specs.declared.making.Call.TheVariants.{Literal, Named, Operation}
 use Rattle.conditions.specs.declared.stacks.Stack.{Stack}
-use Rattle.conditions.specs.Reading.{item}
+use Rattle.passive.specs.Rows.{item}
 use Rattle.conditions.specs.Made.{ItemMade, literal_made, name_made, operation_made}
 use Rattle.conditions.specs.Asks.{making, waiting, waiting_then}
 
-literal_at : (r : PassiveTermRow) → r.tag ≡ 1 → item r ≡ literal r.number
+literal_at : (r : PassiveTermRow) → r.tag ≡ 1 → item r ≡ Literal r.number
 literal_at r e = ap (λ tag. item (record { tag = tag; number = r.number })) e
 
-name_at : (r : PassiveTermRow) → r.tag ≡ 2 → item r ≡ reference (name r.number)
+name_at : (r : PassiveTermRow) → r.tag ≡ 2 → item r ≡ Reference (name r.number)
 name_at r e = ap (λ tag. item (record { tag = tag; number = r.number })) e
 
-operation_at : (r : PassiveTermRow) → r.tag ≢ 1 → r.tag ≢ 2 → item r ≡ operation r.number
+operation_at : (r : PassiveTermRow) → r.tag ≢ 1 → r.tag ≢ 2 → item r ≡ Operation r.number
 operation_at r h g = cond-false (eqb r.tag 1) _ _ (ne_eqb r.tag 1 h) ∙ cond-false (eqb r.tag 2) _ _ (ne_eqb r.tag 2 g)
 
 -- the stack k became k' by the node of an item
@@ -44,12 +45,12 @@ module _ {S : Type 0} (steps : S → Making → Node → S → Type 0) (s t : S)
 
     pub pushed_literal : r.tag ≡ 1 → call ≡ Literal r.number → left ≡ k → Turned steps s k (item r) t k'
     pushed_literal e f same =
-        turned (literal r.number) (waiting k) k.height (literal_at r e) (ap waiting same) (ap (λ (x : Stack). x.height) same)
+        turned (Literal r.number) (waiting k) k.height (literal_at r e) (ap waiting same) (ap (λ (x : Stack). x.height) same)
         (literal_made (call_was (Literal r.number) f)) refl
 
     pub pushed_name : r.tag ≡ 2 → call ≡ Named (name r.number) → left ≡ k → Turned steps s k (item r) t k'
     pushed_name e f same =
-        turned (reference (name r.number)) (waiting k) k.height (name_at r e) (ap waiting same) (ap (λ (x : Stack). x.height) same)
+        turned (Reference (name r.number)) (waiting k) k.height (name_at r e) (ap waiting same) (ap (λ (x : Stack). x.height) same)
         (name_made (call_was (Named (name r.number)) f)) refl
 
     -- two nodes were taken first
@@ -57,7 +58,7 @@ module _ {S : Type 0} (steps : S → Making → Node → S → Type 0) (s t : S)
         → waiting k ≡ q ∷ waiting k₁ → waiting k₁ ≡ p ∷ waiting k₂ → k₁.height + 1 ≡ k.height → k₂.height + 1 ≡ k₁.height → Turned steps s k (item r) t k'
     operated e e' p q k₁ k₂ f same w w₁ h h₁ =
         let down : k₂.height + 1 ≡ k.height - 1 = omega (arith, h, h₁) in
-        turned (operation r.number) (waiting k₂) k₂.height (operation_at r e e') (ap waiting same) (ap (λ (x : Stack). x.height) same)
-        (subst (λ ns. ItemMade steps s ns (operation r.number) t (n ∷ waiting k₂)) (sym (w ∙ ap (λ ns. q ∷ ns) w₁))
+        turned (Operation r.number) (waiting k₂) k₂.height (operation_at r e e') (ap waiting same) (ap (λ (x : Stack). x.height) same)
+        (subst (λ ns. ItemMade steps s ns (Operation r.number) t (n ∷ waiting k₂)) (sym (w ∙ ap (λ ns. q ∷ ns) w₁))
         (operation_made (call_was (Operation r.number p q) f)))
         down

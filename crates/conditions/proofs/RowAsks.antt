@@ -9,7 +9,8 @@ use Rattle.passive.specs.Passive.{p_stop}
 use Rattle.passive.specs.declared.rows.PassiveTermRow.{PassiveTermRow}
 use Rattle.passive.specs.declared.rows.PassiveRow.{PassiveRow}
 use Rattle.formula.specs.Store.{Making, Meaning}
-use Rattle.conditions.specs.Reading.{item, items, alone, reading, reading_at}
+use Rattle.passive.specs.Rows.{item}
+use Rattle.conditions.specs.Reading.{items, alone, reading, reading_at}
 use Rattle.conditions.specs.Made.{Ends, RowMade}
 use Rattle.conditions.specs.Asks.{Room, reading_nodes, ReadingWorkable}
 

@@ -3,7 +3,8 @@ use Rattle.std.proofs.Common.{◌≡◌, ℕ, Bool, true, false, not, ◌&&◌, 
 use Rattle.kinds.specs.Kind.{KindOf}
 use Rattle.kinds.specs.declared.numbered.Name.{Name}
 use Rattle.kinds.specs.declared.numbered.Node.{Node}
-use Rattle.routine.specs.Commands.{Term, Joint}
+use Rattle.routine.specs.declared.rows.Joint.{Joint}
+use Rattle.routine.specs.Commands.{Term}
 use Rattle.passive.specs.Passive.{PassiveSingle}
 use Rattle.passive.specs.Outcomes.{Assignment, named, value_under, Outcomes, single_outcomes, joined_outcomes, single_nodes, joint_nodes}
 use Rattle.formula.specs.Store.{Making, make_name, make_same, make_not, make_and, make_or, yes_or_no, node_no, node_yes, Meaning, Lawful, Grown, Makes}

@@ -4,17 +4,23 @@ use mathlib.Core.List.{map-append}
 use lib.ListN.{length-map}
 use Rattle.std.proofs.lemmas.List.{take_at, drop_at}
 use Rattle.kinds.specs.declared.numbered.Name.{Name}
-use Rattle.routine.specs.Commands.{Item, literal, reference, operation, Term, Joint, sequence, choice, catch}
+use Rattle.routine.specs.declared.rows.Item.{Item}
+use Rattle.routine.specs.declared.rows.Item.TheVariants.{Literal, Reference, Operation}
+use Rattle.routine.specs.declared.rows.Joint.{Joint}
+use Rattle.routine.specs.declared.rows.Joint.TheVariants.{Sequence, Choice, Catch}
+use Rattle.routine.specs.Commands.{Term}
 use Rattle.routine.specs.Standing.{joint_tag}
 use Rattle.passive.specs.Passive.{PassiveSingle, p_assert, p_assume, p_let, p_skip, p_raise, p_stop, Passive, p_single, p_join}
 use Rattle.passive.specs.Outcomes.{joint_nodes, nodes}
 use Rattle.passive.specs.Uses.{WorkableSingle, WorkableForm}
-use Rattle.passive.specs.Layout.{single_term, terms, term_row, term_rows, rows, joint_row, single_row, layout}
+use Rattle.passive.specs.Rows.{term_row}
+use Rattle.passive.specs.Layout.{single_term, terms, term_rows, rows, joint_row, single_row, layout}
 use Rattle.passive.specs.declared.rows.PassiveTermRow.{PassiveTermRow}
 use Rattle.passive.specs.declared.rows.PassiveRow.{PassiveRow}
 use Rattle.passify.proofs.Parts.{length_layout, length_term_rows}
 use Rattle.formula.specs.Store.{Meaning, node_no}
-use Rattle.conditions.specs.Reading.{item, items, part, alone, joins, reading}
+use Rattle.passive.specs.Rows.{item}
+use Rattle.conditions.specs.Reading.{items, part, alone, joins, reading}
 use Rattle.conditions.specs.Valued.{RowsUsed}
 use Rattle.conditions.specs.Asks.{reading_nodes, ReadingWorkable, LeftBefore, RowFits, RowsFit, rows_nodes}
 use Rattle.conditions.proofs.Frames.{used_append}
@@ -49,9 +55,9 @@ module _ (table : List PassiveTermRow) (j : ℕ) (o : Joint) (p q : Passive) (s 
 -- reading what was laid out
 
 item_back : (i : Item Name) → item (term_row i) ≡ i
-item_back (literal n) = refl
-item_back (reference f) = refl
-item_back (operation k) = refl
+item_back (Literal n) = refl
+item_back (Reference f) = refl
+item_back (Operation k) = refl
 
 items_back : (t : Term Name) → items (map term_row t) ≡ t
 items_back [] = refl
@@ -86,9 +92,9 @@ single_reading table j p_raise s = refl
 single_reading table j p_stop s = refl
 
 pub joint_reading : (o : Joint) (left : ℕ) (t : Term Name) → reading (joint_row (joint_tag o) left) t ≡ joins o
-joint_reading sequence left t = refl
-joint_reading choice left t = refl
-joint_reading catch left t = refl
+joint_reading Sequence left t = refl
+joint_reading Choice left t = refl
+joint_reading Catch left t = refl
 
 -- the rows fit
 

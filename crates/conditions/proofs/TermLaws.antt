@@ -3,7 +3,8 @@ use Rattle.std.proofs.Common.{◌≡◌, ℕ, true, List, [], ◌∷◌, map, le
 use Rattle.kinds.specs.Kind.{KindOf}
 use Rattle.kinds.specs.declared.numbered.Name.{Name}
 use Rattle.kinds.specs.declared.numbered.Node.{Node}
-use Rattle.routine.specs.Commands.{Item, Term}
+use Rattle.routine.specs.declared.rows.Item.{Item}
+use Rattle.routine.specs.Commands.{Term}
 use Rattle.routine.specs.Runs.{waiting_after, last_waiting}
 use Rattle.passive.specs.Outcomes.{Assignment, named, value_under}
 use Rattle.formula.specs.Store.{Making, Meaning, Grown, Makes}

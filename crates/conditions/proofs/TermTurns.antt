@@ -3,11 +3,14 @@ use Rattle.std.proofs.Common.{◌≡◌, ℕ, ◌+◌, ◌<◌, ◌≤◌, List,
 use Rattle.std.proofs.lemmas.List.{drop_more, drop_all}
 use Rattle.kinds.specs.declared.numbered.Name.{Name}
 use Rattle.kinds.specs.declared.numbered.Node.{Node}
-use Rattle.routine.specs.Commands.{Item, literal, reference, operation, Term}
+use Rattle.routine.specs.declared.rows.Item.{Item}
+use Rattle.routine.specs.declared.rows.Item.TheVariants.{Literal, Reference, Operation}
+use Rattle.routine.specs.Commands.{Term}
 use Rattle.routine.specs.Standing.{Workable}
 use Rattle.passive.specs.declared.rows.PassiveTermRow.{PassiveTermRow}
 use Rattle.formula.specs.Store.{Making}
-use Rattle.conditions.specs.Reading.{item, items}
+use Rattle.passive.specs.Rows.{item}
+use Rattle.conditions.specs.Reading.{items}
 use Rattle.conditions.specs.Made.{ItemMade, TermMade, term_done, term_more}
 use Rattle.conditions.specs.Asks.{ItemWorkable, waiting_then}
 
@@ -17,14 +20,14 @@ WorkableFrom ops width w t = Workable (λ f. f.0 < width) ops w t
 
 split : (ops width w : ℕ) (i : Item Name) (t : Term Name) → WorkableFrom ops width w (i ∷ t)
     → ItemWorkable ops width i w × WorkableFrom ops width (waiting_then i w) t
-split ops width w (literal n) t h = (h.0, h.1)
-split ops width w (reference f) t h = ((h.0, h.1), h.2)
-split ops width w (operation k) t h = ((h.0, h.1), h.2)
+split ops width w (Literal n) t h = (h.0, h.1)
+split ops width w (Reference f) t h = ((h.0, h.1), h.2)
+split ops width w (Operation k) t h = ((h.0, h.1), h.2)
 
 pub waiting_few : (ops width w : ℕ) (i : Item Name) → ItemWorkable ops width i w → w ≤ 16 → waiting_then i w ≤ 16
-waiting_few ops width w (literal n) h l = omega (arith, h)
-waiting_few ops width w (reference f) h l = omega (arith, h.0)
-waiting_few ops width w (operation k) h l = omega arith
+waiting_few ops width w (Literal n) h l = omega (arith, h)
+waiting_few ops width w (Reference f) h l = omega (arith, h.0)
+waiting_few ops width w (Operation k) h l = omega arith
 
 abbrev no_row : PassiveTermRow
 no_row = record { tag = 0; number = 0 }

@@ -4,7 +4,8 @@ use Rattle.kinds.specs.Kind.{KindOf}
 use Rattle.kinds.specs.declared.numbered.Node.{Node}
 use Rattle.kinds.specs.declared.numbered.Name.{Name}
 use Rattle.routine.specs.Limits.{most_waiting}
-use Rattle.routine.specs.Commands.{Item, literal, reference, operation}
+use Rattle.routine.specs.declared.rows.Item.{Item}
+use Rattle.routine.specs.declared.rows.Item.TheVariants.{Literal, Reference, Operation}
 use Rattle.passive.specs.Outcomes.{single_nodes, joint_nodes}
 use Rattle.passive.specs.Uses.{WorkableSingle}
 use Rattle.passive.specs.declared.rows.PassiveTermRow.{PassiveTermRow}
@@ -50,15 +51,15 @@ NodesUsed M s (n ∷ ns) = (M.in_use s n ≡ true) × NodesUsed M s ns
 
 -- an item of a term may stand where w nodes wait
 abbrev pub ItemWorkable : ℕ → ℕ → Item Name → ℕ → Type 0
-ItemWorkable ops width (literal n) w = w < most_waiting
-ItemWorkable ops width (reference f) w = (w < most_waiting) × (f.0 < width)
-ItemWorkable ops width (operation k) w = (2 ≤ w) × (k < ops)
+ItemWorkable ops width (Literal n) w = w < most_waiting
+ItemWorkable ops width (Reference f) w = (w < most_waiting) × (f.0 < width)
+ItemWorkable ops width (Operation k) w = (2 ≤ w) × (k < ops)
 
 -- how many nodes wait after it
 abbrev pub waiting_then : Item Name → ℕ → ℕ
-waiting_then (literal n) w = w + 1
-waiting_then (reference f) w = w + 1
-waiting_then (operation k) w = w - 1
+waiting_then (Literal n) w = w + 1
+waiting_then (Reference f) w = w + 1
+waiting_then (Operation k) w = w - 1
 
 -- the code's three nodes
 abbrev pub ends_of : Node × Node × Node → Ends

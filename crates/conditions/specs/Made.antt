@@ -2,7 +2,11 @@
 use Rattle.std.specs.Prelude.{ℕ, ◌-◌, List, [], ◌∷◌, ◌++◌, length, slice_index_or}
 use Rattle.kinds.specs.declared.numbered.Name.{Name}
 use Rattle.kinds.specs.declared.numbered.Node.{Node}
-use Rattle.routine.specs.Commands.{Item, literal, reference, operation, Term, Joint, sequence, choice, catch}
+use Rattle.routine.specs.declared.rows.Item.{Item}
+use Rattle.routine.specs.declared.rows.Item.TheVariants.{Literal, Reference, Operation}
+use Rattle.routine.specs.declared.rows.Joint.{Joint}
+use Rattle.routine.specs.declared.rows.Joint.TheVariants.{Sequence, Choice, Catch}
+use Rattle.routine.specs.Commands.{Term}
 use Rattle.passive.specs.Passive.{PassiveSingle, p_assert, p_assume, p_let, p_skip, p_raise, p_stop, Passive}
 use Rattle.passive.specs.Layout.{plain_row, layout, term_rows}
 use Rattle.passive.specs.declared.rows.PassiveTermRow.{PassiveTermRow}
@@ -41,11 +45,11 @@ module _ {S : Type 0} (steps : S → Making → Node → S → Type 0) where
   -- one node for an item of a term, where nodes wait, the last first: an operation takes the last two, the earlier as first operand
   pub data ItemMade : S → List Node → Item Name → S → List Node → Type 0 where
     literal_made : {s t : S} {waiting : List Node} {k : ℕ} {n : Node}
-        → steps s (make_literal k) n t → ItemMade s waiting (literal k) t (n ∷ waiting)
+        → steps s (make_literal k) n t → ItemMade s waiting (Literal k) t (n ∷ waiting)
     name_made : {s t : S} {waiting : List Node} {f : Name} {n : Node}
-        → steps s (make_name f) n t → ItemMade s waiting (reference f) t (n ∷ waiting)
+        → steps s (make_name f) n t → ItemMade s waiting (Reference f) t (n ∷ waiting)
     operation_made : {s t : S} {waiting : List Node} {k : ℕ} {p q n : Node}
-        → steps s (make_operation k p q) n t → ItemMade s (q ∷ (p ∷ waiting)) (operation k) t (n ∷ waiting)
+        → steps s (make_operation k p q) n t → ItemMade s (q ∷ (p ∷ waiting)) (Operation k) t (n ∷ waiting)
 
   -- one node for each item of a term, in order: the one that waits at the end is the term's node
   pub data TermMade : S → List Node → Term Name → S → Node → Type 0 where
@@ -76,15 +80,15 @@ module _ {S : Type 0} (steps : S → Making → Node → S → Type 0) where
     -- N = NA and NB; X = XA or (NA and XB); W = WA or (NA and WB)
     sequence_made : {s u v t : S} {a b : Ends} {n x w : Node}
         → steps s (make_and a.N b.N) n u → OrAndMade u a.X a.N b.X v x → OrAndMade v a.W a.N b.W t w
-        → JointMade s sequence a b t (ends n x w)
+        → JointMade s Sequence a b t (ends n x w)
     -- N = NA or (XA and NB); X = XA and XB; W = WA or (XA and WB)
     catch_made : {s u v t : S} {a b : Ends} {n x w : Node}
         → OrAndMade s a.N a.X b.N u n → steps u (make_and a.X b.X) x v → OrAndMade v a.W a.X b.W t w
-        → JointMade s catch a b t (ends n x w)
+        → JointMade s Catch a b t (ends n x w)
     -- N = NA or NB; X = XA or XB; W = WA or WB
     choice_made : {s u v t : S} {a b : Ends} {n x w : Node}
         → steps s (make_or a.N b.N) n u → steps u (make_or a.X b.X) x v → steps v (make_or a.W b.W) w t
-        → JointMade s choice a b t (ends n x w)
+        → JointMade s Choice a b t (ends n x w)
 
   -- the nodes of a row that says this, where a is the row at `left` and b the row before
   abbrev pub RowMade : S → Reading → Ends → Ends → S → Ends → Type 0

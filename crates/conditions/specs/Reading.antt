@@ -1,17 +1,13 @@
 -- What a row of a passive form says, read from the tables.
 use Rattle.std.specs.Prelude.{ℕ, cond, List, map, take, drop, ◌==◌}
 use Rattle.kinds.specs.declared.numbered.Name.{Name}
-use Rattle.routine.specs.Commands.{Item, literal, reference, operation, Term, Joint, sequence, choice, catch}
+use Rattle.routine.specs.declared.rows.Joint.{Joint}
+use Rattle.routine.specs.declared.rows.Joint.TheVariants.{Sequence, Choice, Catch}
+use Rattle.routine.specs.Commands.{Term}
 use Rattle.passive.specs.Passive.{name, PassiveSingle, p_assert, p_assume, p_let, p_skip, p_raise, p_stop}
+use Rattle.passive.specs.Rows.{item}
 use Rattle.passive.specs.declared.rows.PassiveTermRow.{PassiveTermRow}
 use Rattle.passive.specs.declared.rows.PassiveRow.{PassiveRow}
-
--- a passive term row: 1 literal, 2 name, 3 operation
-abbrev pub item : PassiveTermRow → Item Name
-item r =
-    cond (r.tag == 1) (literal r.number)
-    (cond (r.tag == 2) (reference (name r.number))
-    (operation r.number))
 
 -- the term that these rows are
 abbrev pub items : List PassiveTermRow → Term Name
@@ -33,9 +29,9 @@ reading_at tag r t =
     (cond (tag == 2) (alone (p_assume t))
     (cond (tag == 4) (alone p_skip)
     (cond (tag == 5) (alone p_raise)
-    (cond (tag == 6) (joins sequence)
-    (cond (tag == 7) (joins choice)
-    (cond (tag == 8) (joins catch)
+    (cond (tag == 6) (joins Sequence)
+    (cond (tag == 7) (joins Choice)
+    (cond (tag == 8) (joins Catch)
     (cond (tag == 9) (alone (p_let r.f t))
     (alone p_stop))))))))
 

@@ -1,6 +1,6 @@
 // The nodes of a row of a passive form: those that say whether it may end normally, raised or wrong, in this order.
 ghost use Rattle.std.specs.Prelude.{◌≡◌, ◌<◌, true};
-ghost use Rattle.routine.specs.Commands.{sequence, choice, catch};
+ghost use Rattle.routine.specs.declared.rows.Joint.TheVariants.{Sequence, Choice, Catch};
 ghost use Rattle.conditions.specs.Reading.{items, reading};
 ghost use Rattle.conditions.specs.Made.{OrAndMade, JointMade, RowMade};
 ghost use Rattle.conditions.specs.Valued.{EndsUsed};
@@ -34,7 +34,7 @@ fn sequence_nodes<S: Store>(
     requires left { EndsUsed S.meaning store.old (ends_of left) }
     requires right { EndsUsed S.meaning store.old (ends_of right) }
     requires room { Room S.meaning store.old 5 }
-    ensures { JointMade S.steps store.old sequence (ends_of left) (ends_of right) store.new (ends_of result) }
+    ensures { JointMade S.steps store.old Sequence (ends_of left) (ends_of right) store.new (ends_of result) }
 {
     let normal = make(store, Call::And(left.0, right.0));
     let raised = or_and(store, left.1, left.0, right.1);
@@ -50,7 +50,7 @@ fn catch_nodes<S: Store>(
     requires left { EndsUsed S.meaning store.old (ends_of left) }
     requires right { EndsUsed S.meaning store.old (ends_of right) }
     requires room { Room S.meaning store.old 5 }
-    ensures { JointMade S.steps store.old catch (ends_of left) (ends_of right) store.new (ends_of result) }
+    ensures { JointMade S.steps store.old Catch (ends_of left) (ends_of right) store.new (ends_of result) }
 {
     let normal = or_and(store, left.0, left.1, right.0);
     let raised = make(store, Call::And(left.1, right.1));
@@ -66,7 +66,7 @@ fn choice_nodes<S: Store>(
     requires left { EndsUsed S.meaning store.old (ends_of left) }
     requires right { EndsUsed S.meaning store.old (ends_of right) }
     requires room { Room S.meaning store.old 3 }
-    ensures { JointMade S.steps store.old choice (ends_of left) (ends_of right) store.new (ends_of result) }
+    ensures { JointMade S.steps store.old Choice (ends_of left) (ends_of right) store.new (ends_of result) }
 {
     let normal = make(store, Call::Or(left.0, right.0));
     let raised = make(store, Call::Or(left.1, right.1));

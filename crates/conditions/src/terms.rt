@@ -1,7 +1,8 @@
 // The nodes of a term.
 ghost use Rattle.std.specs.Prelude.{◌≡◌, ◌<◌, ◌≤◌, [], length};
 ghost use Rattle.passive.specs.Uses.{WorkableUnder};
-ghost use Rattle.conditions.specs.Reading.{item, items};
+ghost use Rattle.passive.specs.Rows.{item};
+ghost use Rattle.conditions.specs.Reading.{items};
 ghost use Rattle.conditions.specs.Made.{ItemMade, TermMade};
 ghost use Rattle.conditions.specs.Asks.{waiting, NodesUsed, Room, ItemWorkable, waiting_then};
 

@@ -26,7 +26,7 @@ impl Kind for Flag {
     }
 
     fn same(self, other: Flag) -> bool {
-        self.0 == other.0
+        self == other
     }
 
     fn ops() -> u16 {

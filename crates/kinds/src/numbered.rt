@@ -1,4 +1,5 @@
 // Three sorts of number, which never stand for one another.
+use std::fmt;
 
 // A variable of a routine, numbered from 0.
 #[derive(Clone, Copy, Debug, PartialEq, Eq)]
@@ -11,3 +12,21 @@ pub struct Name(pub u16);
 // A node of a formula store.
 #[derive(Clone, Copy, Debug, PartialEq, Eq)]
 pub struct Node(pub u32);
+
+impl fmt::Display for Variable {
+    fn fmt<W: fmt::Write>(&self, f: &mut fmt::Formatter<W>) -> fmt::Result {
+        write!(f, "v{}", self.0)
+    }
+}
+
+impl fmt::Display for Name {
+    fn fmt<W: fmt::Write>(&self, f: &mut fmt::Formatter<W>) -> fmt::Result {
+        write!(f, "n{}", self.0)
+    }
+}
+
+impl fmt::Display for Node {
+    fn fmt<W: fmt::Write>(&self, f: &mut fmt::Formatter<W>) -> fmt::Result {
+        write!(f, "node {}", self.0)
+    }
+}

@@ -26,7 +26,7 @@ impl Kind for Number {
     }
 
     fn same(self, other: Number) -> bool {
-        self.0 == other.0
+        self == other
     }
 
     fn ops() -> u16 {

@@ -1,21 +1,24 @@
 // Why a call is refused.
-ghost use Rattle.std.specs.Prelude.{◌≡◌, ℕ};
+ghost use Rattle.std.specs.Prelude.{◌≡◌};
 ghost use Rattle.kinds.specs.Refusals.{refusal_number};
 
+use std::fmt;
+
+// Each is the number that stands for it in the rules.
 #[derive(Clone, Copy, Debug, PartialEq, Eq)]
 pub enum Refusal {
-    Limits,
-    Tag,
-    Target,
-    Term,
-    Parts,
-    Whole,
-    Names,
-    WorkTable,
-    Places,
-    Entries,
-    NotInUse,
-    Struck,
+    Limits = 1,
+    Tag = 2,
+    Target = 3,
+    Term = 4,
+    Parts = 5,
+    Whole = 6,
+    Names = 7,
+    WorkTable = 8,
+    Places = 9,
+    Entries = 10,
+    NotInUse = 11,
+    Struck = 12,
 }
 
 impl Refusal {
@@ -23,19 +26,12 @@ impl Refusal {
     pub fn number(self) -> u32
         ensures { result ≡ refusal_number self }
     {
-        match self {
-            Refusal::Limits => 1,
-            Refusal::Tag => 2,
-            Refusal::Target => 3,
-            Refusal::Term => 4,
-            Refusal::Parts => 5,
-            Refusal::Whole => 6,
-            Refusal::Names => 7,
-            Refusal::WorkTable => 8,
-            Refusal::Places => 9,
-            Refusal::Entries => 10,
-            Refusal::NotInUse => 11,
-            Refusal::Struck => 12,
-        }
+        self as u32
+    }
+}
+
+impl fmt::Display for Refusal {
+    fn fmt<W: fmt::Write>(&self, f: &mut fmt::Formatter<W>) -> fmt::Result {
+        write!(f, "refused with {}", self.number())
     }
 }

@@ -4,7 +4,8 @@ use Rattle.std.proofs.lemmas.Bool.Decides.{nat_tests}
 use Rattle.kinds.specs.declared.refusals.Refusal.TheVariants.{Limits}
 use Rattle.routine.specs.declared.rows.TermRow.{TermRow}
 use Rattle.routine.specs.declared.rows.CommandRow.{CommandRow}
-use Rattle.routine.specs.Commands.{Single, assert, assume, assign, skip, raise, sequence, choice, catch, Command, single, join, size, single_places, places}
+use Rattle.routine.specs.declared.rows.Joint.TheVariants.{Sequence, Choice, Catch}
+use Rattle.routine.specs.Commands.{Single, assert, assume, assign, skip, raise, Command, single, join, size, single_places, places}
 use Rattle.routine.specs.Decoding.{rows_from, within_limits, decode}
 use Rattle.routine.specs.Standing.{Fields, row, EndsAt, Stands, Proper}
 use Rattle.routine.proofs.Soundness.{decoding_sound}
@@ -24,9 +25,9 @@ use Rattle.passify.proofs.Singles.{term_within, term_long}
 -- a passive form has no more rows than nodes and one, and no more term rows than nodes
 rows_few : (p : Passive) → rows p ≤ nodes p + 1
 rows_few (p_single p) = omega arith
-rows_few (p_join sequence p q) = omega (arith, rows_few p, rows_few q)
-rows_few (p_join choice p q) = omega (arith, rows_few p, rows_few q)
-rows_few (p_join catch p q) = omega (arith, rows_few p, rows_few q)
+rows_few (p_join Sequence p q) = omega (arith, rows_few p, rows_few q)
+rows_few (p_join Choice p q) = omega (arith, rows_few p, rows_few q)
+rows_few (p_join Catch p q) = omega (arith, rows_few p, rows_few q)
 
 terms_few : (p : Passive) → length (terms p) ≤ nodes p
 terms_few (p_single (p_assert t)) = omega arith

@@ -1,6 +1,6 @@
 -- A joined command in the tables: its parts, each with its renamings, and the row that joins them.
 use Rattle.std.proofs.Common.{◌≡◌, ℕ, ◌+◌, ◌-◌, ◌^◌, ◌<◌, ◌≤◌, List, length, sym, refl, ap, ◌∙◌, arith}
-use Rattle.routine.specs.Commands.{Joint}
+use Rattle.routine.specs.declared.rows.Joint.{Joint}
 use Rattle.routine.specs.Standing.{joint_tag}
 use Rattle.passive.specs.Passive.{Passive, p_single, p_join, Merge, merge, Passified, leaves_normal, leaves_raised, joined}
 use Rattle.passive.specs.Layout.{rows, terms, joint_row}

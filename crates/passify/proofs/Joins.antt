@@ -1,6 +1,6 @@
 -- A joined command, measured from its parts.
 use Rattle.std.proofs.Common.{◌≡◌, ℕ, ◌+◌, ◌*◌, ◌^◌, ◌<◌, ◌≤◌, length, ap, ◌∙◌, arith}
-use Rattle.routine.specs.Commands.{Joint}
+use Rattle.routine.specs.declared.rows.Joint.{Joint}
 use Rattle.passive.specs.Passive.{Names, Merge, merge, leaves_normal, leaves_raised}
 use Rattle.passive.specs.Outcomes.{joint_nodes}
 use Rattle.passify.specs.declared.maps.Merging.{Merging}

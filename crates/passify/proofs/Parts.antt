@@ -2,10 +2,13 @@
 use Rattle.std.proofs.Common.{◌≡◌, ℕ, ◌+◌, ◌-◌, ◌*◌, List, [], ◌∷◌, ◌++◌, map, length, sym, refl, ap, ◌∙◌, append_assoc, append-nil, arith, length-append}
 use mathlib.Core.List.{map-append}
 use lib.ListN.{length-map}
-use Rattle.routine.specs.Commands.{reference, Joint, sequence}
+use Rattle.routine.specs.declared.rows.Item.TheVariants.{Reference}
+use Rattle.routine.specs.declared.rows.Joint.{Joint}
+use Rattle.routine.specs.declared.rows.Joint.TheVariants.{Sequence}
 use Rattle.routine.specs.Standing.{joint_tag}
 use Rattle.passive.specs.Passive.{Passive, p_single, p_join, Renamed, let_of, then_lets, tail, guard, Passified, joined}
-use Rattle.passive.specs.Layout.{terms, term_row, term_rows, rows, plain_row, joint_row, layout}
+use Rattle.passive.specs.Rows.{term_row}
+use Rattle.passive.specs.Layout.{terms, term_rows, rows, plain_row, joint_row, layout}
 use Rattle.passive.proofs.Endings.{normal_merge, raised_merge}
 use Rattle.passify.specs.Measuring.{guard_rows}
 use Rattle.passify.specs.Pieces.{Piece, ◌then◌, one_row, form_piece, old_terms, let_row, more_lets, lets, tail_rows, guard_piece_rows, tail_piece, guard_piece, side_piece}
@@ -29,7 +32,7 @@ pub length_term_rows : (p : Passive) → length (term_rows p) ≡ length (terms 
 length_term_rows p = length-map (terms p) term_row
 
 pub length_old_terms : (rs : List Renamed) → length (old_terms rs) ≡ length rs
-length_old_terms rs = length-map rs (λ r. term_row (reference r.old))
+length_old_terms rs = length-map rs (λ r. term_row (Reference r.old))
 
 pub length_more_lets : (rs : List Renamed) (i j : ℕ) → length (more_lets rs i j) ≡ 2 * length rs
 length_more_lets [] i j = refl
@@ -65,8 +68,8 @@ then_lets_rows p (r ∷ rs) i j =
     let i1 = i + rows p in
     let j1 = j + length (terms p) in
     let a : i + (rows p + 1 + 1) ≡ i1 + 2 = omega arith in
-    let b : j + length (terms p ++ (reference r.old ∷ [])) ≡ j1 + 1 = omega (arith, length-append (terms p) (reference r.old ∷ [])) in
-    then_lets_rows (p_join sequence p (let_of r)) rs i j
+    let b : j + length (terms p ++ (Reference r.old ∷ [])) ≡ j1 + 1 = omega (arith, length-append (terms p) (Reference r.old ∷ [])) in
+    then_lets_rows (p_join Sequence p (let_of r)) rs i j
     ∙ append_assoc (layout p i j) (let_row r j1 ∷ joint_row 6 (i1 - 1) ∷ []) _
     ∙ (λ t. layout p i j ++ (let_row r j1 ∷ joint_row 6 (i1 - 1) ∷ more_lets rs (a t) (b t)))
 
@@ -96,14 +99,14 @@ term_rows_join o p q = map-append term_row (terms p) (terms q)
 then_lets_terms : (p : Passive) (rs : List Renamed) → term_rows (then_lets p rs) ≡ term_rows p ++ old_terms rs
 then_lets_terms p [] = sym (append-nil (term_rows p))
 then_lets_terms p (r ∷ rs) =
-    then_lets_terms (p_join sequence p (let_of r)) rs
-    ∙ ap (λ l. l ++ old_terms rs) (term_rows_join sequence p (let_of r))
+    then_lets_terms (p_join Sequence p (let_of r)) rs
+    ∙ ap (λ l. l ++ old_terms rs) (term_rows_join Sequence p (let_of r))
     ∙ append_assoc (term_rows p) (term_rows (let_of r)) (old_terms rs)
 
 tail_terms_are : (p : Passive) (rs : List Renamed) → term_rows (tail p rs) ≡ term_rows p ++ old_terms rs
 tail_terms_are p [] = sym (append-nil (term_rows p))
 tail_terms_are p (r ∷ rs) =
-    term_rows_join sequence p (then_lets (let_of r) rs) ∙ ap (λ l. term_rows p ++ l) (then_lets_terms (let_of r) rs)
+    term_rows_join Sequence p (then_lets (let_of r) rs) ∙ ap (λ l. term_rows p ++ l) (then_lets_terms (let_of r) rs)
 
 guard_terms_are : (p : Passive) (rs : List Renamed) → term_rows (guard p rs) ≡ term_rows p ++ old_terms rs
 guard_terms_are p [] = sym (append-nil (term_rows p))

@@ -2,7 +2,9 @@
 use Rattle.std.proofs.Common.{◌≡◌, ℕ, ◌-◌, ◌<◌, ◌≤◌, List, length, get_or, Some, None, Option, sym, refl, ap, ◌∙◌, subst, arith}
 use Rattle.routine.specs.declared.rows.TermRow.{TermRow}
 use Rattle.routine.specs.declared.rows.CommandRow.{CommandRow}
-use Rattle.routine.specs.Commands.{Single, assert, assume, assign, skip, raise, Joint, sequence, choice, catch, Command, single, join}
+use Rattle.routine.specs.declared.rows.Joint.{Joint}
+use Rattle.routine.specs.declared.rows.Joint.TheVariants.{Sequence, Choice, Catch}
+use Rattle.routine.specs.Commands.{Single, assert, assume, assign, skip, raise, Command, single, join}
 use Rattle.routine.specs.Standing.{no_row, single_tag, joint_tag, Fields, EndsAt}
 use Rattle.passive.specs.Passive.{passify_single, entry}
 use Rattle.passify.specs.declared.maps.NameMap.{NameMap}
@@ -22,9 +24,9 @@ single_small skip = omega arith
 single_small raise = omega arith
 
 joint_big : (j : Joint) → 6 ≤ joint_tag j
-joint_big sequence = omega arith
-joint_big choice = omega arith
-joint_big catch = omega arith
+joint_big Sequence = omega arith
+joint_big Choice = omega arith
+joint_big Catch = omega arith
 
 module _ (v ops : ℕ) (cs : List CommandRow) (ts : List TermRow) (i : ℕ) where
   pub within : (c : Command) → EndsAt v ops cs ts i c → i < length cs

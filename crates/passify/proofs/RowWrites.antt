@@ -2,7 +2,8 @@
 use Rattle.std.proofs.Common.{◌≡◌, ℕ, ◌+◌, ◌-◌, ◌^◌, ◌<◌, ◌≤◌, List, length, Some, None, Option, sym, ap, ◌∙◌, subst, arith}
 use Rattle.routine.specs.declared.rows.TermRow.{TermRow}
 use Rattle.routine.specs.declared.rows.CommandRow.{CommandRow}
-use Rattle.routine.specs.Commands.{Joint, Command, single, join}
+use Rattle.routine.specs.declared.rows.Joint.{Joint}
+use Rattle.routine.specs.Commands.{Command, single, join}
 use Rattle.passive.specs.Passive.{Passified, entry, leaves_normal, leaves_raised, joined, passify_single, passify}
 use Rattle.passive.specs.Layout.{joint_row, plain_row}
 use Rattle.passive.specs.declared.rows.PassiveTermRow.{PassiveTermRow}

@@ -5,9 +5,10 @@ use Rattle.kinds.specs.declared.numbered.Name.{Name}
 use Rattle.routine.specs.declared.rows.TermRow.{TermRow}
 use Rattle.routine.specs.declared.rows.CommandRow.{CommandRow}
 use Rattle.routine.specs.Commands.{Single, assert, assume, assign, skip, raise}
-use Rattle.routine.specs.Decoding.{item}
+use Rattle.routine.specs.Rows.{item}
 use Rattle.passive.specs.Passive.{name, rename, passify_single}
-use Rattle.passive.specs.Layout.{term_row, term_rows, passive_row, rows, layout, put}
+use Rattle.passive.specs.Rows.{term_row}
+use Rattle.passive.specs.Layout.{term_rows, passive_row, rows, layout, put}
 use Rattle.passive.specs.declared.rows.PassiveTermRow.{PassiveTermRow}
 use Rattle.passive.specs.declared.rows.PassiveRow.{PassiveRow}
 use Rattle.passify.specs.declared.maps.NameMap.{NameMap}

@@ -7,7 +7,8 @@ use Rattle.kinds.specs.declared.numbered.Name.{Name}
 use Rattle.routine.specs.declared.rows.TermRow.{TermRow}
 use Rattle.routine.specs.declared.rows.CommandRow.{CommandRow}
 use Rattle.routine.specs.Commands.{Term, assert, assume, assign, skip, raise}
-use Rattle.routine.specs.Decoding.{item, part, well_formed}
+use Rattle.routine.specs.Rows.{item}
+use Rattle.routine.specs.Decoding.{part, well_formed}
 use Rattle.routine.specs.Standing.{HasTerm}
 use Rattle.routine.proofs.Splits.{both_true}
 use Rattle.passive.specs.Passive.{name, renamed, rename, passify_single}

@@ -2,7 +2,9 @@
 use Rattle.std.proofs.Common.{◌≡◌, ℕ, suc, ◌+◌, ◌*◌, ◌≤◌, Bool, true, false, cond, eqb, List, [], ◌∷◌, ◌++◌, length, Some, None, sym, refl, ap, ◌∙◌, arith, length-append}
 use Rattle.std.proofs.lemmas.Bool.{true≢false, false≢true, eqb-true, eqb-false, eq-eqb, ne_eqb}
 use Rattle.kinds.specs.declared.numbered.Name.{Name}
-use Rattle.routine.specs.Commands.{Single, assert, assume, assign, skip, raise, Joint, sequence, Command, single, join}
+use Rattle.routine.specs.declared.rows.Joint.{Joint}
+use Rattle.routine.specs.declared.rows.Joint.TheVariants.{Sequence}
+use Rattle.routine.specs.Commands.{Single, assert, assume, assign, skip, raise, Command, single, join}
 use Rattle.passive.specs.Passive.{name, Passive, p_join, Names, Renamed, Merged, agreeing, differing, merge_names, merge, let_of, then_lets, tail, guard, Passified, passify_single, entry, leaves_normal, leaves_raised, joined, passify}
 use Rattle.passive.specs.Outcomes.{nodes}
 use Rattle.passive.specs.Layout.{rows, terms}
@@ -77,7 +79,7 @@ pub record Adds (r t n : ℕ) (p q : Passive) : Type 0 where
 pub lets_add : (p : Passive) (rs : List Renamed) → Adds (2 * length rs) (length rs) (8 * length rs) p (then_lets p rs)
 lets_add p [] = record { rows_more = omega arith; terms_more = omega arith; nodes_more = omega arith }
 lets_add p (r ∷ rs) =
-    let h = lets_add (p_join sequence p (let_of r)) rs in
+    let h = lets_add (p_join Sequence p (let_of r)) rs in
     record {
       rows_more = omega (arith, h.rows_more);
       terms_more = omega (arith, h.terms_more, length-append (terms p) (terms (let_of r)));

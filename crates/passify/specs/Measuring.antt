@@ -2,7 +2,8 @@
 use Rattle.std.specs.Prelude.{◌≡◌, ℕ, ◌+◌, ◌*◌, ◌^◌, ◌<◌, ◌≤◌, cond, List, length, Some, None, Option, ◌==◌}
 use Rattle.routine.specs.declared.rows.TermRow.{TermRow}
 use Rattle.routine.specs.declared.rows.CommandRow.{CommandRow}
-use Rattle.routine.specs.Commands.{Single, Joint, Command, single, join}
+use Rattle.routine.specs.declared.rows.Joint.{Joint}
+use Rattle.routine.specs.Commands.{Single, Command, single, join}
 use Rattle.routine.specs.Standing.{single_tag, joint_tag, Fields, EndsAt}
 use Rattle.passive.specs.Passive.{Names, merge, Passified, passify_single, entry, leaves_normal, leaves_raised}
 use Rattle.passive.specs.Outcomes.{joint_nodes, nodes}

@@ -1,8 +1,9 @@
 -- What the code writes, piece by piece: rows and their terms, from a place in the two tables on.
 use Rattle.std.specs.Prelude.{◌≡◌, ℕ, ◌+◌, ◌-◌, ◌*◌, ◌^◌, ◌<◌, ◌≤◌, cond, List, [], ◌∷◌, ◌++◌, map, length, ◌==◌}
-use Rattle.routine.specs.Commands.{reference}
+use Rattle.routine.specs.declared.rows.Item.TheVariants.{Reference}
 use Rattle.passive.specs.Passive.{Renamed, Passive}
-use Rattle.passive.specs.Layout.{term_row, term_rows, passive_row, plain_row, joint_row, layout, put}
+use Rattle.passive.specs.Rows.{term_row}
+use Rattle.passive.specs.Layout.{term_rows, passive_row, plain_row, joint_row, layout, put}
 use Rattle.passive.specs.declared.rows.PassiveTermRow.{PassiveTermRow}
 use Rattle.passive.specs.declared.rows.PassiveRow.{PassiveRow}
 use Rattle.passify.specs.declared.writing.Place.{Place}
@@ -22,13 +23,13 @@ abbrev pub form_piece : Passive → ℕ → ℕ → Piece
 form_piece p i j = record { rows = layout p i j; terms = term_rows p }
 
 abbrev pub old_terms : List Renamed → List PassiveTermRow
-old_terms rs = map (λ r. term_row (reference r.old)) rs
+old_terms rs = map (λ r. term_row (Reference r.old)) rs
 
 abbrev pub let_row : Renamed → ℕ → PassiveRow
 let_row r j = passive_row 9 r.new j 1 0
 
 abbrev pub let_piece : Renamed → ℕ → Piece
-let_piece r j = record { rows = let_row r j ∷ []; terms = term_row (reference r.old) ∷ [] }
+let_piece r j = record { rows = let_row r j ∷ []; terms = term_row (Reference r.old) ∷ [] }
 
 -- lets that follow others, from row i on: each with the sequence that joins it to those before
 abbrev pub more_lets : List Renamed → ℕ → ℕ → List PassiveRow

@@ -1,8 +1,9 @@
 // Writing the passive form of a command.
 ghost use Rattle.std.specs.Prelude.{◌≡◌, ℕ, ◌+◌, ◌^◌, ◌<◌, ◌≤◌, List, [], ◌∷◌, map, length};
-ghost use Rattle.routine.specs.Decoding.{item};
+ghost use Rattle.routine.specs.Rows.{item};
 ghost use Rattle.passive.specs.Passive.{renamed, rename, passify_single};
-ghost use Rattle.passive.specs.Layout.{term_row as row_of_item, layout, put};
+ghost use Rattle.passive.specs.Rows.{term_row as row_of_item};
+ghost use Rattle.passive.specs.Layout.{layout, put};
 ghost use Rattle.passify.specs.Names.{map_of};
 ghost use Rattle.passify.specs.Measuring.{AtSingle, SomeSingle};
 ghost use Rattle.passify.specs.Pieces.{Wrote};

@@ -3,7 +3,9 @@ use Rattle.std.proofs.Common.{◌≡◌, ℕ, ◌+◌, ◌*◌, ◌≤◌, List,
 use lib.ListN.{length-map}
 use Rattle.kinds.specs.declared.numbered.Variable.{Variable}
 use Rattle.kinds.specs.declared.numbered.Name.{Name}
-use Rattle.routine.specs.Commands.{Term, Single, assert, assume, assign, skip, raise, Joint, sequence, choice, catch, Command, single, join, size, single_places, places}
+use Rattle.routine.specs.declared.rows.Joint.{Joint}
+use Rattle.routine.specs.declared.rows.Joint.TheVariants.{Sequence, Choice, Catch}
+use Rattle.routine.specs.Commands.{Term, Single, assert, assume, assign, skip, raise, Command, single, join, size, single_places, places}
 use Rattle.routine.specs.Standing.{ProperSingle, Proper}
 use Rattle.passive.specs.Passive.{Passive, p_join, Names, renamed, rename, Renamed, let_of, then_lets, tail, guard, Passified, passify_single, entry, joined, passify, names_from}
 use Rattle.passive.specs.Outcomes.{joint_nodes, nodes}
@@ -17,7 +19,7 @@ length_rename m t = length-map t (renamed m)
 
 nodes_lets : (p : Passive) (rs : List Renamed) → nodes (then_lets p rs) ≡ nodes p + 8 * length rs
 nodes_lets p [] = omega arith
-nodes_lets p (r ∷ rs) = nodes_lets (p_join sequence p (let_of r)) rs ∙ omega arith
+nodes_lets p (r ∷ rs) = nodes_lets (p_join Sequence p (let_of r)) rs ∙ omega arith
 
 nodes_tail : (p : Passive) (rs : List Renamed) → nodes (tail p rs) ≤ nodes p + 8 * length rs
 nodes_tail p [] = omega arith
@@ -34,9 +36,9 @@ nodes_ends v k n o p ns xs l l' h g =
     omega (arith, nodes_guard (tail p ns) xs, nodes_tail p ns, fresh_many k k n ns h, fresh_many n n o xs g)
 
 joint_few : (j : Joint) → joint_nodes j ≤ 5
-joint_few sequence = omega arith
-joint_few choice = omega arith
-joint_few catch = omega arith
+joint_few Sequence = omega arith
+joint_few Choice = omega arith
+joint_few Catch = omega arith
 
 -- at most so many nodes, and names up to k + i
 pub record Few (k most i : ℕ) (p : Passified) : Type 0 where

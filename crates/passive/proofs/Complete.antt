@@ -5,7 +5,9 @@ use Rattle.std.proofs.lemmas.List.{map-set, get_or-set_same}
 use Rattle.kinds.specs.Kind.{KindOf}
 use Rattle.kinds.specs.declared.numbered.Variable.{Variable}
 use Rattle.kinds.specs.declared.numbered.Name.{Name}
-use Rattle.routine.specs.Commands.{Term, assert, assume, assign, skip, raise, Joint, sequence, choice, catch, Command, single, join}
+use Rattle.routine.specs.declared.rows.Joint.{Joint}
+use Rattle.routine.specs.declared.rows.Joint.TheVariants.{Sequence, Choice, Catch}
+use Rattle.routine.specs.Commands.{Term, assert, assume, assign, skip, raise, Command, single, join}
 use Rattle.routine.specs.Runs.{value_in, State, Outcome, normal, raised, wrong, blocked, Run, assert_holds, assert_fails, assume_holds, assume_blocks, assigns, skips, raises, sequence_on, sequence_raised, sequence_wrong, sequence_blocked, catch_on, catch_normal, catch_wrong, catch_blocked, choice_left, choice_right}
 use Rattle.routine.specs.Standing.{ProperTerm, Proper}
 use Rattle.passive.specs.Passive.{name, Names, Passified, entry, leaves_normal, leaves_raised, joined, passify_single, passify}
@@ -204,26 +206,26 @@ module _ {V : Type 0} (K : KindOf V) where
   complete v ops (Some m) k a (skips {s}) w z u f = as_it_is (single skip) m k a (normal s) (refl, f)
   complete v ops (Some m) k a (raises {s}) w z u f = as_it_is (single raise) m k a (raised s) (refl, f)
   complete v ops (Some m) k a (sequence_on {a = c} {b = d} {s} {m = t} {o = e} r₁ r₂) w z u f =
-      ends_right v ops sequence c d m k a w z u t e (λ i. complete v ops (Some m) k a r₁ w.0 z i f)
+      ends_right v ops Sequence c d m k a w z u t e (λ i. complete v ops (Some m) k a r₁ w.0 z i f)
       (λ a' z' i f'. complete v ops (passify c (Some m) k).normal (passify c (Some m) k).next a' r₂ w.1 z' i f')
   complete v ops (Some m) k a (sequence_raised {a = c} {b = d} {s} {m = t} r₁) w z u f =
-      ends_left v ops sequence c d m k a w z u (raised t) (λ i. complete v ops (Some m) k a r₁ w.0 z i f)
+      ends_left v ops Sequence c d m k a w z u (raised t) (λ i. complete v ops (Some m) k a r₁ w.0 z i f)
   complete v ops (Some m) k a (sequence_wrong {a = c} {b = d} {s} r₁) w z u f =
-      ends_left v ops sequence c d m k a w z u wrong (λ i. complete v ops (Some m) k a r₁ w.0 z i f)
+      ends_left v ops Sequence c d m k a w z u wrong (λ i. complete v ops (Some m) k a r₁ w.0 z i f)
   complete v ops (Some m) k a (sequence_blocked {a = c} {b = d} {s} r₁) w z u f =
-      ends_left v ops sequence c d m k a w z u blocked (λ i. complete v ops (Some m) k a r₁ w.0 z i f)
+      ends_left v ops Sequence c d m k a w z u blocked (λ i. complete v ops (Some m) k a r₁ w.0 z i f)
   complete v ops (Some m) k a (catch_on {a = c} {b = d} {s} {m = t} {o = e} r₁ r₂) w z u f =
-      ends_right v ops catch c d m k a w z u t e (λ i. complete v ops (Some m) k a r₁ w.0 z i f)
+      ends_right v ops Catch c d m k a w z u t e (λ i. complete v ops (Some m) k a r₁ w.0 z i f)
       (λ a' z' i f'. complete v ops (passify c (Some m) k).raised (passify c (Some m) k).next a' r₂ w.1 z' i f')
   complete v ops (Some m) k a (catch_normal {a = c} {b = d} {s} {m = t} r₁) w z u f =
-      ends_left v ops catch c d m k a w z u (normal t) (λ i. complete v ops (Some m) k a r₁ w.0 z i f)
+      ends_left v ops Catch c d m k a w z u (normal t) (λ i. complete v ops (Some m) k a r₁ w.0 z i f)
   complete v ops (Some m) k a (catch_wrong {a = c} {b = d} {s} r₁) w z u f =
-      ends_left v ops catch c d m k a w z u wrong (λ i. complete v ops (Some m) k a r₁ w.0 z i f)
+      ends_left v ops Catch c d m k a w z u wrong (λ i. complete v ops (Some m) k a r₁ w.0 z i f)
   complete v ops (Some m) k a (catch_blocked {a = c} {b = d} {s} r₁) w z u f =
-      ends_left v ops catch c d m k a w z u blocked (λ i. complete v ops (Some m) k a r₁ w.0 z i f)
+      ends_left v ops Catch c d m k a w z u blocked (λ i. complete v ops (Some m) k a r₁ w.0 z i f)
   complete v ops (Some m) k a (choice_left {a = c} {b = d} {s} {o = e} r₁) w z u f =
-      ends_left v ops choice c d m k a w z u e (λ i. complete v ops (Some m) k a r₁ w.0 z i f)
+      ends_left v ops Choice c d m k a w z u e (λ i. complete v ops (Some m) k a r₁ w.0 z i f)
   complete v ops (Some m) k a (choice_right {a = c} {b = d} {s} {o = e} r₁) w z u f =
-      ends_right v ops choice c d m k a w z u s e
-      (λ i. at_once K k a (λ a'. ShowsEntering a' choice m (passify c (Some m) k) s) (refl, f))
+      ends_right v ops Choice c d m k a w z u s e
+      (λ i. at_once K k a (λ a'. ShowsEntering a' Choice m (passify c (Some m) k) s) (refl, f))
       (λ a' z' i f'. complete v ops (Some m) (passify c (Some m) k).next a' r₁ w.1 z' i f')

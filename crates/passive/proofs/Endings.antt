@@ -2,7 +2,8 @@
 use Rattle.std.proofs.Common.{◌≡◌, Bool, true, false, ◌&&◌, ◌||◌, List, [], ◌∷◌, sym, refl, ap, ◌∙◌, ap₂}
 use mathlib.Core.Bool.{and-true, and_assoc}
 use Rattle.kinds.specs.Kind.{KindOf}
-use Rattle.routine.specs.Commands.{Joint, sequence, choice, catch}
+use Rattle.routine.specs.declared.rows.Joint.{Joint}
+use Rattle.routine.specs.declared.rows.Joint.TheVariants.{Sequence, Choice, Catch}
 use Rattle.passive.specs.Passive.{Passive, p_join, Renamed, Merge, merge, let_of, then_lets, tail, guard, Passified, leaves_normal, leaves_raised, joined}
 use Rattle.passive.specs.Outcomes.{Assignment, named, Outcomes, joined_outcomes, outcomes}
 
@@ -25,39 +26,39 @@ or_none false false = refl
 ended_true : (o : Outcomes) → ended o true true ≡ o
 ended_true o = λ i. record { N = and-true o.N i; X = and-true o.X i; W = o.W }
 
-then_given : (o : Outcomes) (b : Bool) → joined_outcomes sequence o (given b) ≡ ended o b true
+then_given : (o : Outcomes) (b : Bool) → joined_outcomes Sequence o (given b) ≡ ended o b true
 then_given o b = λ i. record { N = o.N && b; X = (or_none o.X o.N ∙ sym (and-true o.X)) i; W = or_none o.W o.N i }
 
-caught_given : (o : Outcomes) (b : Bool) → joined_outcomes catch o (given_raised b) ≡ ended o true b
+caught_given : (o : Outcomes) (b : Bool) → joined_outcomes Catch o (given_raised b) ≡ ended o true b
 caught_given o b = λ i. record { N = (or_none o.N o.X ∙ sym (and-true o.N)) i; X = o.X && b; W = or_none o.W o.X i }
 
-given_then_raise : (b : Bool) → joined_outcomes sequence (given b) (given_raised true) ≡ given_raised b
+given_then_raise : (b : Bool) → joined_outcomes Sequence (given b) (given_raised true) ≡ given_raised b
 given_then_raise true = refl
 given_then_raise false = refl
 
 -- the part of the left form's outcomes that is the whole's, and whether control goes on into the right part
 abbrev pub leaving : Joint → Outcomes → Outcomes
-leaving sequence o = record { N = false; X = o.X; W = o.W }
-leaving choice o = o
-leaving catch o = record { N = o.N; X = false; W = o.W }
+leaving Sequence o = record { N = false; X = o.X; W = o.W }
+leaving Choice o = o
+leaving Catch o = record { N = o.N; X = false; W = o.W }
 
 abbrev pub entering : Joint → Outcomes → Bool
-entering sequence o = o.N
-entering choice o = true
-entering catch o = o.X
+entering Sequence o = o.N
+entering Choice o = true
+entering Catch o = o.X
 
 abbrev pub either : Outcomes → Bool → Outcomes → Outcomes
 either l e r = record { N = l.N || (e && r.N); X = l.X || (e && r.X); W = l.W || (e && r.W) }
 
 joined_either : (j : Joint) (o r : Outcomes) → joined_outcomes j o r ≡ either (leaving j o) (entering j o) r
-joined_either sequence o r = refl
-joined_either choice o r = refl
-joined_either catch o r = refl
+joined_either Sequence o r = refl
+joined_either Choice o r = refl
+joined_either Catch o r = refl
 
 leaving_ended : (j : Joint) (o : Outcomes) (e g : Bool) → leaving j (ended o e g) ≡ ended (leaving j o) e g
-leaving_ended sequence o e g = refl
-leaving_ended choice o e g = refl
-leaving_ended catch o e g = refl
+leaving_ended Sequence o e g = refl
+leaving_ended Choice o e g = refl
+leaving_ended Catch o e g = refl
 
 -- the two merges of a joined form
 abbrev pub normal_merge : Joint → Passified → Passified → Merge
@@ -77,7 +78,7 @@ module _ {V : Type 0} (K : KindOf V) (a : Assignment V) where
   then_lets_are p (r ∷ rs) =
       let o = outcomes K a p in
       let e = K.same (named K a r.new) (named K a r.old) in
-      then_lets_are (p_join sequence p (let_of r)) rs
+      then_lets_are (p_join Sequence p (let_of r)) rs
       ∙ ap (λ (z : Outcomes). ended z (agreed rs) true) (then_given o e)
       ∙ (λ i. record { N = and_assoc o.N e (agreed rs) i; X = and-true (o.X && true) i; W = o.W })
 
@@ -86,14 +87,14 @@ module _ {V : Type 0} (K : KindOf V) (a : Assignment V) where
 
   tail_is : (p : Passive) (rs : List Renamed) → outcomes K a (tail p rs) ≡ ended (outcomes K a p) (agreed rs) true
   tail_is p [] = sym (ended_true (outcomes K a p))
-  tail_is p (r ∷ rs) = ap (joined_outcomes sequence (outcomes K a p)) (lets_are r rs) ∙ then_given (outcomes K a p) (agreed (r ∷ rs))
+  tail_is p (r ∷ rs) = ap (joined_outcomes Sequence (outcomes K a p)) (lets_are r rs) ∙ then_given (outcomes K a p) (agreed (r ∷ rs))
 
   guard_is : (p : Passive) (rs : List Renamed) → outcomes K a (guard p rs) ≡ ended (outcomes K a p) true (agreed rs)
   guard_is p [] = sym (ended_true (outcomes K a p))
   guard_is p (r ∷ rs) =
       let o = outcomes K a p in
-      ap (λ (z : Outcomes). joined_outcomes catch o (joined_outcomes sequence z (given_raised true))) (lets_are r rs)
-      ∙ ap (joined_outcomes catch o) (given_then_raise (agreed (r ∷ rs)))
+      ap (λ (z : Outcomes). joined_outcomes Catch o (joined_outcomes Sequence z (given_raised true))) (lets_are r rs)
+      ∙ ap (joined_outcomes Catch o) (given_then_raise (agreed (r ∷ rs)))
       ∙ caught_given o (agreed (r ∷ rs))
 
   ends_are : (p : Passive) (ns xs : List Renamed) → outcomes K a (guard (tail p ns) xs) ≡ ended (outcomes K a p) (agreed ns) (agreed xs)
@@ -106,9 +107,9 @@ module _ {V : Type 0} (K : KindOf V) (a : Assignment V) where
   -- where control goes on, nothing is renamed
   entering_ended : (j : Joint) (l r : Passified) (o : Outcomes)
       → entering j (ended o (agreed (normal_merge j l r).left) (agreed (raised_merge j l r).left)) ≡ entering j o
-  entering_ended sequence l r o = and-true o.N
-  entering_ended choice l r o = refl
-  entering_ended catch l r o = and-true o.X
+  entering_ended Sequence l r o = and-true o.N
+  entering_ended Choice l r o = refl
+  entering_ended Catch l r o = and-true o.X
 
   -- the outcomes of the left part where control leaves it, and those of the right part where it is entered, each after its renaming
   pub joined_is : (j : Joint) (l r : Passified) →

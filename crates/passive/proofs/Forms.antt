@@ -1,7 +1,9 @@
 -- What is so of every passive form: its maps name every variable, all its names are below its next new one, and its terms can be worked out.
 use Rattle.std.proofs.Common.{◌≡◌, ℕ, zero, suc, ◌+◌, ◌<◌, ◌≤◌, List, [], ◌∷◌, length, set, Some, None, refl, ap, ◌∙◌, arith, length-set}
 use Rattle.kinds.specs.declared.numbered.Name.{Name}
-use Rattle.routine.specs.Commands.{Single, assert, assume, assign, skip, raise, Joint, sequence, choice, catch, Command, single, join}
+use Rattle.routine.specs.declared.rows.Joint.{Joint}
+use Rattle.routine.specs.declared.rows.Joint.TheVariants.{Sequence, Choice, Catch}
+use Rattle.routine.specs.Commands.{Single, assert, assume, assign, skip, raise, Command, single, join}
 use Rattle.routine.specs.Standing.{ProperSingle, Proper}
 use Rattle.passive.specs.Passive.{name, PassiveSingle, p_assert, p_assume, p_let, p_skip, p_raise, p_stop, Passive, p_single, p_join, Names, Renamed, let_of, then_lets, tail, guard, Passified, passify_single, entry, leaves_normal, leaves_raised, joined, passify, names_from, passive_form}
 use Rattle.passive.specs.Uses.{AllBelow, WorkableSingle, WorkableForm}
@@ -36,7 +38,7 @@ module _ (ops b n : ℕ) (l : b ≤ n) where
 
   workable_lets : (k : ℕ) (p : Passive) (rs : List Renamed) → WorkableForm ops n p → Fresh b k n rs → WorkableForm ops n (then_lets p rs)
   workable_lets k p [] u h = u
-  workable_lets k p (r ∷ rs) u h = workable_lets (k + 1) (p_join sequence p (let_of r)) rs (u, workable_let k r rs h) h.2
+  workable_lets k p (r ∷ rs) u h = workable_lets (k + 1) (p_join Sequence p (let_of r)) rs (u, workable_let k r rs h) h.2
 
   workable_tail : (k : ℕ) (p : Passive) (rs : List Renamed) → WorkableForm ops n p → Fresh b k n rs → WorkableForm ops n (tail p rs)
   workable_tail k p [] u h = u
@@ -56,20 +58,20 @@ workable_ends ops i k n o p ns xs l l₁ l₂ u h g =
 
 module _ (P : Names → Type 0) (none : P None) where
   at_leaves_normal : (j : Joint) (l : Passified) → P l.normal → P (leaves_normal j l.normal)
-  at_leaves_normal sequence l h = none
-  at_leaves_normal choice l h = h
-  at_leaves_normal catch l h = h
+  at_leaves_normal Sequence l h = none
+  at_leaves_normal Choice l h = h
+  at_leaves_normal Catch l h = h
 
   at_leaves_raised : (j : Joint) (l : Passified) → P l.raised → P (leaves_raised j l.raised)
-  at_leaves_raised sequence l h = h
-  at_leaves_raised choice l h = h
-  at_leaves_raised catch l h = none
+  at_leaves_raised Sequence l h = h
+  at_leaves_raised Choice l h = h
+  at_leaves_raised Catch l h = none
 
 pub entry_names : (v ops k : ℕ) (j : Joint) (m : List Name) (l : Passified) → NamesOf v k (Some m) → Formed v ops k l
     → NamesOf v l.next (entry j m l.normal l.raised)
-entry_names v ops k sequence m l h p = p.normal
-entry_names v ops k choice m l h p = names_more v k l.next (Some m) p.from h
-entry_names v ops k catch m l h p = p.raised
+entry_names v ops k Sequence m l h p = p.normal
+entry_names v ops k Choice m l h p = names_more v k l.next (Some m) p.from h
+entry_names v ops k Catch m l h p = p.raised
 
 -- the left part's exits from the whole, and the two merges of a joined form
 pub record MergesBoth (v : ℕ) (j : Joint) (l r : Passified) : Type 0 where

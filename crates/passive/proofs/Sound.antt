@@ -4,7 +4,9 @@ use Rattle.std.proofs.lemmas.Bool.{and_parts, or_cases, not-true, false≢true}
 use Rattle.std.proofs.lemmas.List.{map-set}
 use Rattle.kinds.specs.Kind.{KindOf}
 use Rattle.kinds.specs.declared.numbered.Name.{Name}
-use Rattle.routine.specs.Commands.{Single, assert, assume, assign, skip, raise, Joint, sequence, choice, catch, Command, single, join}
+use Rattle.routine.specs.declared.rows.Joint.{Joint}
+use Rattle.routine.specs.declared.rows.Joint.TheVariants.{Sequence, Choice, Catch}
+use Rattle.routine.specs.Commands.{Single, assert, assume, assign, skip, raise, Command, single, join}
 use Rattle.routine.specs.Runs.{value_in, State, Outcome, normal, raised, wrong, Run, assert_holds, assert_fails, assume_holds, assigns, skips, raises, sequence_on, sequence_raised, sequence_wrong, catch_on, catch_normal, catch_wrong, choice_left, choice_right}
 use Rattle.routine.specs.Standing.{ProperSingle, Proper}
 use Rattle.passive.specs.Passive.{name, Names, merge, Passified, entry, leaves_normal, leaves_raised, joined, passify_single, passify}
@@ -29,17 +31,17 @@ module _ {V : Type 0} (K : KindOf V) (a : Assignment V) where
   -- a run of the left part by which the whole is left is a run of the whole
   sound_leaving : (j : Joint) (c d : Command) (s : State V) (l : Passified) (o : Outcomes) → Sounds c s o l.normal l.raised
       → Sounds (join j c d) s (leaving j o) (leaves_normal j l.normal) (leaves_raised j l.raised)
-  sound_leaving sequence c d s l o f = record {
+  sound_leaving Sequence c d s l o f = record {
     on_normal = λ h. absurd (false≢true h);
     on_raised = λ h. let x = f.on_raised h in (x.0, sequence_raised x.1, x.2);
     on_wrong = λ h. sequence_wrong (f.on_wrong h);
   }
-  sound_leaving choice c d s l o f = record {
+  sound_leaving Choice c d s l o f = record {
     on_normal = λ h. let x = f.on_normal h in (x.0, choice_left x.1, x.2);
     on_raised = λ h. let x = f.on_raised h in (x.0, choice_left x.1, x.2);
     on_wrong = λ h. choice_left (f.on_wrong h);
   }
-  sound_leaving catch c d s l o f = record {
+  sound_leaving Catch c d s l o f = record {
     on_normal = λ h. let x = f.on_normal h in (x.0, catch_normal x.1, x.2);
     on_raised = λ h. absurd (false≢true h);
     on_wrong = λ h. catch_wrong (f.on_wrong h);
@@ -49,9 +51,9 @@ module _ {V : Type 0} (K : KindOf V) (a : Assignment V) where
   sound_entering : (j : Joint) (c d : Command) (m : List Name) (s : State V) (l : Passified) (o : Outcomes)
       → Sounds c s o l.normal l.raised → Reads K a (Some m) s → entering j o ≡ true
       → (t : State V) × Reads K a (entry j m l.normal l.raised) t × ((e : Outcome V) → Run K d t e → Run K (join j c d) s e)
-  sound_entering sequence c d m s l o f g h = let x = f.on_normal h in (x.0, x.2, λ e r. sequence_on x.1 r)
-  sound_entering choice c d m s l o f g h = (s, g, λ e r. choice_right r)
-  sound_entering catch c d m s l o f g h = let x = f.on_raised h in (x.0, x.2, λ e r. catch_on x.1 r)
+  sound_entering Sequence c d m s l o f g h = let x = f.on_normal h in (x.0, x.2, λ e r. sequence_on x.1 r)
+  sound_entering Choice c d m s l o f g h = (s, g, λ e r. choice_right r)
+  sound_entering Catch c d m s l o f g h = let x = f.on_raised h in (x.0, x.2, λ e r. catch_on x.1 r)
 
   -- an end by which the left part leaves the whole, or one of the right part once entered: the map of both reads its state
   from_either : (v k : ℕ) (m n : Names) (Ends : State V → Type 0) (x g y : Bool) → Sized v m → Sized v n

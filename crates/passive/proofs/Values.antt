@@ -4,7 +4,8 @@ use Rattle.std.proofs.lemmas.List.{get_or-map}
 use Rattle.kinds.specs.Kind.{KindOf}
 use Rattle.kinds.specs.declared.numbered.Variable.{Variable}
 use Rattle.kinds.specs.declared.numbered.Name.{Name}
-use Rattle.routine.specs.Commands.{literal, reference, operation, Term}
+use Rattle.routine.specs.declared.rows.Item.TheVariants.{Literal, Reference, Operation}
+use Rattle.routine.specs.Commands.{Term}
 use Rattle.routine.specs.Runs.{operate_on, waiting_after, last_waiting, value, State, value_in}
 use Rattle.routine.specs.Standing.{Workable, ProperTerm}
 use Rattle.passive.specs.Passive.{name, rename}
@@ -14,9 +15,9 @@ use Rattle.passive.specs.Agreement.{Reads}
 
 pub workable_more : (b n ops w : ℕ) (t : Term Name) → b ≤ n → Workable (λ f. f.0 < b) ops w t → Workable (λ f. f.0 < n) ops w t
 workable_more b n ops w [] l h = h
-workable_more b n ops w (literal i ∷ t) l h = (h.0, workable_more b n ops (w + 1) t l h.1)
-workable_more b n ops w (reference f ∷ t) l h = (h.0, omega arith, workable_more b n ops (w + 1) t l h.2)
-workable_more b n ops w (operation k ∷ t) l h = (h.0, h.1, workable_more b n ops (w - 1) t l h.2)
+workable_more b n ops w (Literal i ∷ t) l h = (h.0, workable_more b n ops (w + 1) t l h.1)
+workable_more b n ops w (Reference f ∷ t) l h = (h.0, omega arith, workable_more b n ops (w + 1) t l h.2)
+workable_more b n ops w (Operation k ∷ t) l h = (h.0, h.1, workable_more b n ops (w - 1) t l h.2)
 
 below_at : (n : ℕ) (m : List Name) (i : ℕ) → AllBelow n m → i < length m → (get_or m i (name 0)).0 < n
 below_at n [] i h l = absurd (omega arith)
@@ -26,20 +27,20 @@ below_at n (x ∷ m) (suc i) h l = below_at n m i h.1 (omega arith)
 pub workable_renamed : (v n ops w : ℕ) (m : List Name) (t : Term Variable) → length m ≡ v → AllBelow n m
     → Workable (λ x. x.0 < v) ops w t → Workable (λ f. f.0 < n) ops w (rename m t)
 workable_renamed v n ops w m [] z b h = h
-workable_renamed v n ops w m (literal i ∷ t) z b h = (h.0, workable_renamed v n ops (w + 1) m t z b h.1)
-workable_renamed v n ops w m (reference x ∷ t) z b h =
+workable_renamed v n ops w m (Literal i ∷ t) z b h = (h.0, workable_renamed v n ops (w + 1) m t z b h.1)
+workable_renamed v n ops w m (Reference x ∷ t) z b h =
     (h.0, below_at n m x.0 b (omega (arith, h.1)), workable_renamed v n ops (w + 1) m t z b h.2)
-workable_renamed v n ops w m (operation k ∷ t) z b h = (h.0, h.1, workable_renamed v n ops (w - 1) m t z b h.2)
+workable_renamed v n ops w m (Operation k ∷ t) z b h = (h.0, h.1, workable_renamed v n ops (w - 1) m t z b h.2)
 
 module _ {V : Type 0} (K : KindOf V) where
   module _ (ops : ℕ) (Known : Name → Type 0) (look look' : Name → V) (same : (f : Name) → Known f → look f ≡ look' f) where
     waiting_alike : (w : ℕ) (t : Term Name) (waiting : List V) → Workable Known ops w t
         → waiting_after K look t waiting ≡ waiting_after K look' t waiting
     waiting_alike w [] waiting h = refl
-    waiting_alike w (literal n ∷ t) waiting h = waiting_alike (w + 1) t (K.literal n ∷ waiting) h.1
-    waiting_alike w (reference f ∷ t) waiting h =
+    waiting_alike w (Literal n ∷ t) waiting h = waiting_alike (w + 1) t (K.literal n ∷ waiting) h.1
+    waiting_alike w (Reference f ∷ t) waiting h =
         waiting_alike (w + 1) t (look f ∷ waiting) h.2 ∙ ap (λ (x : V). waiting_after K look' t (x ∷ waiting)) (same f h.1)
-    waiting_alike w (operation k ∷ t) waiting h =
+    waiting_alike w (Operation k ∷ t) waiting h =
         waiting_alike (w - 1) t (operate_on K k waiting) h.2
 
     -- two ways to look that are the same on what a term may refer to give it the same value
@@ -56,11 +57,11 @@ module _ {V : Type 0} (K : KindOf V) where
     waiting_renamed : (w : ℕ) (t : Term Variable) (waiting : List V) → Workable (λ x. x.0 < v) ops w t
         → waiting_after K look (rename m t) waiting ≡ waiting_after K (in_state s) t waiting
     waiting_renamed w [] waiting h = refl
-    waiting_renamed w (literal n ∷ t) waiting h = waiting_renamed (w + 1) t (K.literal n ∷ waiting) h.1
-    waiting_renamed w (reference x ∷ t) waiting h =
+    waiting_renamed w (Literal n ∷ t) waiting h = waiting_renamed (w + 1) t (K.literal n ∷ waiting) h.1
+    waiting_renamed w (Reference x ∷ t) waiting h =
         waiting_renamed (w + 1) t (look (get_or m x.0 (name 0)) ∷ waiting) h.2
         ∙ ap (λ (y : V). waiting_after K (in_state s) t (y ∷ waiting)) (looked_up x h.1)
-    waiting_renamed w (operation k ∷ t) waiting h =
+    waiting_renamed w (Operation k ∷ t) waiting h =
         waiting_renamed (w - 1) t (operate_on K k waiting) h.2
 
   -- a renamed term has the value that the term has in the state that the map reads

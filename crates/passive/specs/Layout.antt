@@ -2,9 +2,10 @@
 use Rattle.std.specs.Prelude.{ℕ, ◌+◌, ◌-◌, List, [], ◌∷◌, ◌++◌, map, length, take, drop}
 use Rattle.kinds.specs.declared.numbered.Name.{Name}
 use Rattle.kinds.specs.declared.numbered.Node.{Node}
-use Rattle.routine.specs.Commands.{Item, literal, reference, operation, Term}
+use Rattle.routine.specs.Commands.{Term}
 use Rattle.routine.specs.Standing.{joint_tag}
 use Rattle.passive.specs.Passive.{name, PassiveSingle, p_assert, p_assume, p_let, p_skip, p_raise, p_stop, Passive, p_single, p_join}
+use Rattle.passive.specs.Rows.{term_row}
 use Rattle.passive.specs.declared.rows.PassiveTermRow.{PassiveTermRow}
 use Rattle.passive.specs.declared.rows.PassiveRow.{PassiveRow}
 
@@ -20,12 +21,6 @@ single_term p_stop = []
 abbrev pub terms : Passive → Term Name
 terms (p_single p) = single_term p
 terms (p_join j p q) = terms p ++ terms q
-
--- a passive term row: 1 literal, 2 name, 3 operation
-abbrev pub term_row : Item Name → PassiveTermRow
-term_row (literal n) = record { tag = 1; number = n }
-term_row (reference f) = record { tag = 2; number = f.0 }
-term_row (operation k) = record { tag = 3; number = k }
 
 abbrev pub term_rows : Passive → List PassiveTermRow
 term_rows p = map term_row (terms p)

@@ -1,3 +1,4 @@
+pub mod Rows
 pub mod Passive
 pub mod Outcomes
 pub mod Uses

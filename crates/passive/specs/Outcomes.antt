@@ -2,7 +2,9 @@
 use Rattle.std.specs.Prelude.{ℕ, ◌+◌, Bool, true, false, not, ◌&&◌, ◌||◌, List, length, slice_index_or}
 use Rattle.kinds.specs.Kind.{KindOf}
 use Rattle.kinds.specs.declared.numbered.Name.{Name}
-use Rattle.routine.specs.Commands.{Term, Joint, sequence, choice, catch}
+use Rattle.routine.specs.declared.rows.Joint.{Joint}
+use Rattle.routine.specs.declared.rows.Joint.TheVariants.{Sequence, Choice, Catch}
+use Rattle.routine.specs.Commands.{Term}
 use Rattle.routine.specs.Runs.{value}
 use Rattle.passive.specs.Passive.{PassiveSingle, p_assert, p_assume, p_let, p_skip, p_raise, p_stop, Passive, p_single, p_join}
 
@@ -16,9 +18,9 @@ pub record Outcomes : Type 0 where
   pub W : Bool
 
 abbrev pub joined_outcomes : Joint → Outcomes → Outcomes → Outcomes
-joined_outcomes sequence a b = record { N = a.N && b.N; X = a.X || (a.N && b.X); W = a.W || (a.N && b.W) }
-joined_outcomes catch a b = record { N = a.N || (a.X && b.N); X = a.X && b.X; W = a.W || (a.X && b.W) }
-joined_outcomes choice a b = record { N = a.N || b.N; X = a.X || b.X; W = a.W || b.W }
+joined_outcomes Sequence a b = record { N = a.N && b.N; X = a.X || (a.N && b.X); W = a.W || (a.N && b.W) }
+joined_outcomes Catch a b = record { N = a.N || (a.X && b.N); X = a.X && b.X; W = a.W || (a.X && b.W) }
+joined_outcomes Choice a b = record { N = a.N || b.N; X = a.X || b.X; W = a.W || b.W }
 
 module _ {V : Type 0} (K : KindOf V) (a : Assignment V) where
   abbrev pub named : Name → V
@@ -49,9 +51,9 @@ single_nodes p_raise = 0
 single_nodes p_stop = 0
 
 abbrev pub joint_nodes : Joint → ℕ
-joint_nodes sequence = 5
-joint_nodes choice = 3
-joint_nodes catch = 5
+joint_nodes Sequence = 5
+joint_nodes Choice = 3
+joint_nodes Catch = 5
 
 abbrev pub nodes : Passive → ℕ
 nodes (p_single p) = single_nodes p

@@ -2,7 +2,11 @@
 use Rattle.std.specs.Prelude.{ℕ, zero, suc, ◌+◌, true, false, List, [], ◌∷◌, map, Some, None, Option, ◌==◌, slice_index_or, slice_set}
 use Rattle.kinds.specs.declared.numbered.Variable.{Variable}
 use Rattle.kinds.specs.declared.numbered.Name.{Name}
-use Rattle.routine.specs.Commands.{Item, literal, reference, operation, Term, Single, assert, assume, assign, skip, raise, Joint, sequence, choice, catch, Command, single, join}
+use Rattle.routine.specs.declared.rows.Item.{Item}
+use Rattle.routine.specs.declared.rows.Item.TheVariants.{Literal, Reference, Operation}
+use Rattle.routine.specs.declared.rows.Joint.{Joint}
+use Rattle.routine.specs.declared.rows.Joint.TheVariants.{Sequence, Choice, Catch}
+use Rattle.routine.specs.Commands.{Term, Single, assert, assume, assign, skip, raise, Command, single, join}
 
 abbrev pub name : ℕ → Name
 name n = record { 0 = n }
@@ -22,9 +26,9 @@ abbrev pub Names : Type 0
 Names = Option (List Name)
 
 abbrev pub renamed : List Name → Item Variable → Item Name
-renamed m (literal n) = literal n
-renamed m (reference x) = reference (slice_index_or m x.0 (name 0))
-renamed m (operation k) = operation k
+renamed m (Literal n) = Literal n
+renamed m (Reference x) = Reference (slice_index_or m x.0 (name 0))
+renamed m (Operation k) = Operation k
 
 -- a term with the name of each variable in its place
 abbrev pub rename : List Name → Term Variable → Term Name
@@ -77,22 +81,22 @@ merge (Some xs) (Some ys) k =
     record { names = Some r.names; left = r.left; right = r.right; next = r.next }
 
 abbrev pub let_of : Renamed → Passive
-let_of r = p_single (p_let r.new (reference r.old ∷ []))
+let_of r = p_single (p_let r.new (Reference r.old ∷ []))
 
 -- p, then one let for each, joined by sequences from the left
 abbrev pub then_lets : Passive → List Renamed → Passive
 then_lets p [] = p
-then_lets p (r ∷ rs) = then_lets (p_join sequence p (let_of r)) rs
+then_lets p (r ∷ rs) = then_lets (p_join Sequence p (let_of r)) rs
 
 -- p, and the renaming where it ends normally
 abbrev pub tail : Passive → List Renamed → Passive
 tail p [] = p
-tail p (r ∷ rs) = p_join sequence p (then_lets (let_of r) rs)
+tail p (r ∷ rs) = p_join Sequence p (then_lets (let_of r) rs)
 
 -- p, and the renaming where it ends raised
 abbrev pub guard : Passive → List Renamed → Passive
 guard p [] = p
-guard p (r ∷ rs) = p_join catch p (p_join sequence (then_lets (let_of r) rs) (p_single p_raise))
+guard p (r ∷ rs) = p_join Catch p (p_join Sequence (then_lets (let_of r) rs) (p_single p_raise))
 
 pub record Passified : Type 0 where
   pub code : Passive
@@ -116,20 +120,20 @@ passify_single raise m k = record { code = p_single p_raise; normal = None; rais
 
 -- the map that the right part of a joined command starts from, where the command starts from m and its left part ends with n and x
 abbrev pub entry : Joint → List Name → Names → Names → Names
-entry sequence m n x = n
-entry choice m n x = Some m
-entry catch m n x = x
+entry Sequence m n x = n
+entry Choice m n x = Some m
+entry Catch m n x = x
 
 -- the left part's exits from the whole: in a sequence its normal exit goes on into the right part, in a catch its raised one
 abbrev pub leaves_normal : Joint → Names → Names
-leaves_normal sequence n = None
-leaves_normal choice n = n
-leaves_normal catch n = n
+leaves_normal Sequence n = None
+leaves_normal Choice n = n
+leaves_normal Catch n = n
 
 abbrev pub leaves_raised : Joint → Names → Names
-leaves_raised sequence x = x
-leaves_raised choice x = x
-leaves_raised catch x = None
+leaves_raised Sequence x = x
+leaves_raised Choice x = x
+leaves_raised Catch x = None
 
 -- the exits of both parts are merged, first the normal ones; each part renames at its own
 abbrev pub joined : Joint → Passified → Passified → Passified

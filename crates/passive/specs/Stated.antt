@@ -1,15 +1,15 @@
 -- How each joint is passified, as the rules state it. `joined` of Passive.antt has one clause for all three.
 use Rattle.std.specs.Prelude.{◌≡◌}
-use Rattle.routine.specs.Commands.{sequence, choice, catch}
+use Rattle.routine.specs.declared.rows.Joint.TheVariants.{Sequence, Choice, Catch}
 use Rattle.passive.specs.Passive.{p_join, merge, tail, guard, Passified, joined}
 
 -- a sequence merges the raised maps, guards both parts and has the right part's normal map
 abbrev pub SequenceRule : Passified → Passified → Type 0
 SequenceRule a b =
     let x = merge a.raised b.raised b.next in
-    joined sequence a b
+    joined Sequence a b
     ≡ record {
-      code = p_join sequence (guard a.code x.left) (guard b.code x.right);
+      code = p_join Sequence (guard a.code x.left) (guard b.code x.right);
       normal = b.normal;
       raised = x.names;
       next = x.next;
@@ -19,9 +19,9 @@ SequenceRule a b =
 abbrev pub CatchRule : Passified → Passified → Type 0
 CatchRule a b =
     let n = merge a.normal b.normal b.next in
-    joined catch a b
+    joined Catch a b
     ≡ record {
-      code = p_join catch (tail a.code n.left) (tail b.code n.right);
+      code = p_join Catch (tail a.code n.left) (tail b.code n.right);
       normal = n.names;
       raised = b.raised;
       next = n.next;
@@ -32,9 +32,9 @@ abbrev pub ChoiceRule : Passified → Passified → Type 0
 ChoiceRule a b =
     let n = merge a.normal b.normal b.next in
     let x = merge a.raised b.raised n.next in
-    joined choice a b
+    joined Choice a b
     ≡ record {
-      code = p_join choice (guard (tail a.code n.left) x.left) (guard (tail b.code n.right) x.right);
+      code = p_join Choice (guard (tail a.code n.left) x.left) (guard (tail b.code n.right) x.right);
       normal = n.names;
       raised = x.names;
       next = x.next;

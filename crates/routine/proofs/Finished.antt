@@ -8,9 +8,10 @@ use Rattle.routine.specs.declared.rows.TermRow.{TermRow}
 use Rattle.routine.specs.declared.rows.CommandRow.{CommandRow}
 use Rattle.routine.specs.declared.checks.Part.{Part}
 use Rattle.routine.specs.Limits.{most_commands, most_terms, most_variables, deepest}
-use Rattle.routine.specs.Commands.{Joint, Command, single, join, size, depth}
+use Rattle.routine.specs.declared.rows.Joint.{Joint}
+use Rattle.routine.specs.Commands.{Command, single, join, size, depth}
 use Rattle.routine.specs.Decoding.{Reading, alone, joins, reading, joined, placed, whole, rows_from, within_limits, decode, verdict}
-use Rattle.routine.specs.Checking.{shape, no_part, Ready, joined_part, part_at}
+use Rattle.routine.specs.Checking.{no_part, Ready, joined_part, part_at}
 use Rattle.routine.proofs.Splits.{false_is_not_true}
 
 pub size_pos : (c : Command) → 0 < size c
@@ -95,7 +96,7 @@ module _ (parts : List Part) (i left : ℕ) where
 
   agrees :
       (finished : List Command) → Laid parts i finished → (rd : Result Reading Refusal)
-      → Agrees parts i (part_at parts i left (shape rd)) (placed i left finished rd)
+      → Agrees parts i (part_at parts i left rd) (placed i left finished rd)
   agrees finished h (Err e) = refl
   agrees finished h (Ok (alone c)) = (refl, refl, h)
   agrees finished h (Ok (joins j)) = agrees_joint j finished h
@@ -129,7 +130,7 @@ module _ (v ops : ℕ) (terms : List TermRow) (commands : List CommandRow) where
       step = placed i here.left so.finished (reading v ops terms here)
 
       abbrev part : Result Part Refusal
-      part = part_at parts i here.left (shape (reading v ops terms here))
+      part = part_at parts i here.left (reading v ops terms here)
 
       agreed : Agrees parts i part step
       agreed = agrees parts i here.left so.finished so.laid (reading v ops terms here)

@@ -7,7 +7,8 @@ use Rattle.kinds.specs.declared.refusals.Refusal.{Refusal}
 use Rattle.routine.specs.declared.rows.TermRow.{TermRow}
 use Rattle.routine.specs.declared.rows.CommandRow.{CommandRow}
 use Rattle.routine.specs.Limits.{deepest}
-use Rattle.routine.specs.Commands.{Term, Single, assert, assume, assign, skip, raise, Joint, Command, single, join, size, depth}
+use Rattle.routine.specs.declared.rows.Joint.{Joint}
+use Rattle.routine.specs.Commands.{Term, Single, assert, assume, assign, skip, raise, Command, single, join, size, depth}
 use Rattle.routine.specs.Decoding.{part, well_formed, Reading, alone, joins, reading, joined, placed, whole, rows_from, within_limits}
 use Rattle.routine.specs.Standing.{no_row, ProperTerm, ProperSingle, Proper, HasTerm, Fields, row, EndsAt, Stands, DecodingSound}
 use Rattle.routine.proofs.Splits.{by_test, both_true}

@@ -5,7 +5,8 @@ use Rattle.std.proofs.lemmas.Bool.Decides.{nat_tests}
 use Rattle.kinds.specs.declared.numbered.Variable.{Variable}
 use Rattle.routine.specs.declared.rows.TermRow.{TermRow}
 use Rattle.routine.specs.Commands.{Term}
-use Rattle.routine.specs.Decoding.{item, may_stand, waiting_then, well_formed}
+use Rattle.routine.specs.Rows.{item}
+use Rattle.routine.specs.Decoding.{may_stand, waiting_then, well_formed}
 use Rattle.routine.specs.Standing.{Workable}
 use Rattle.routine.specs.Checking.{stepped}
 use Rattle.routine.proofs.Splits.{by_test, same_number, both_true}

@@ -3,19 +3,12 @@ use Rattle.std.specs.Prelude.{ℕ, ◌+◌, ◌-◌, ◌<◌, ◌≤◌, max, co
 use Rattle.kinds.specs.declared.refusals.Refusal.{Refusal}
 use Rattle.kinds.specs.declared.refusals.Refusal.TheVariants.{Parts}
 use Rattle.routine.specs.declared.rows.TermRow.{TermRow}
-use Rattle.routine.specs.declared.checks.Shape.{Shape}
-use Rattle.routine.specs.declared.checks.Shape.TheVariants.{Alone, Joins}
 use Rattle.routine.specs.declared.checks.Part.{Part}
 use Rattle.routine.specs.Limits.{deepest}
 use Rattle.routine.specs.Decoding.{Reading, alone, joins, may_stand, waiting_then}
 
 abbrev pub stepped : ℕ → ℕ → ℕ → TermRow → Option ℕ
 stepped v ops w r = cond (may_stand v ops w r) (Some (waiting_then w r)) None
-
-abbrev pub shape : Result Reading Refusal → Result Shape Refusal
-shape (Ok (alone c)) = Ok Alone
-shape (Ok (joins j)) = Ok Joins
-shape (Err e) = Err e
 
 abbrev pub no_part : Part
 no_part = record { first = 0; depth = 0 }
@@ -34,7 +27,8 @@ joined_part parts i left =
     (Ok (record { first = a.first; depth = max a.depth b.depth + 1 }))
     (Err Parts)
 
-abbrev pub part_at : List Part → ℕ → ℕ → Result Shape Refusal → Result Part Refusal
-part_at parts i left (Ok Alone) = Ok (record { first = i; depth = 1 })
-part_at parts i left (Ok Joins) = joined_part parts i left
+-- the command that ends at row i, where the row says this
+abbrev pub part_at : List Part → ℕ → ℕ → Result Reading Refusal → Result Part Refusal
+part_at parts i left (Ok (alone c)) = Ok (record { first = i; depth = 1 })
+part_at parts i left (Ok (joins j)) = joined_part parts i left
 part_at parts i left (Err e) = Err e

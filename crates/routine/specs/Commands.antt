@@ -1,13 +1,10 @@
 -- A routine as a tree of guarded commands.
 use Rattle.std.specs.Prelude.{ℕ, ◌+◌, max, List, length}
 use Rattle.kinds.specs.declared.numbered.Variable.{Variable}
+use Rattle.routine.specs.declared.rows.Item.{Item}
+use Rattle.routine.specs.declared.rows.Joint.{Joint}
 
--- one item of a postfix term: R is what may be referred to, a variable here and a name in the passive form
-pub data Item (R : Type 0) : Type 0 where
-  literal : ℕ → Item R
-  reference : R → Item R
-  operation : ℕ → Item R
-
+-- a term in postfix order: R is what it may refer to, a variable here and a name in the passive form
 abbrev pub Term : Type 0 → Type 0
 Term R = List (Item R)
 
@@ -15,9 +12,6 @@ pub data Single : Type 0 where
   assert assume : Term Variable → Single
   assign : Variable → Term Variable → Single
   skip raise : Single
-
-pub data Joint : Type 0 where
-  sequence choice catch : Joint
 
 pub data Command : Type 0 where
   single : Single → Command

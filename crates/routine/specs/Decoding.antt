@@ -2,21 +2,15 @@
 use Rattle.std.specs.Prelude.{ℕ, ◌+◌, ◌-◌, max, Bool, cond, ◌&&◌, ◌||◌, List, [], ◌∷◌, map, length, take, drop, Ok, Err, Result, ◌==◌, nat_le, nat_lt}
 use Rattle.kinds.specs.declared.numbered.Variable.{Variable}
 use Rattle.kinds.specs.declared.refusals.Refusal.{Refusal}
-use Rattle.kinds.specs.declared.refusals.Refusal.TheVariants.{Limits, Tag, Target, Term as BadTerm, Parts, Whole}
+use Rattle.kinds.specs.declared.refusals.Refusal.TheVariants.{Limits, Target, Term as BadTerm, Parts, Whole}
 use Rattle.routine.specs.declared.rows.TermRow.{TermRow}
 use Rattle.routine.specs.declared.rows.CommandRow.{CommandRow}
 use Rattle.routine.specs.Limits.{most_variables, most_commands, most_terms, most_waiting, deepest}
-use Rattle.routine.specs.Commands.{Item, literal, reference, operation, Term, Single, assert, assume, assign, skip, raise, Joint, sequence, choice, catch, Command, single, join, size, depth}
-
-abbrev pub variable : ℕ → Variable
-variable n = record { 0 = n }
-
--- a term row: 1 literal, 2 variable, 3 operation
-abbrev pub item : TermRow → Item Variable
-item r =
-    cond (r.tag == 1) (literal r.number)
-    (cond (r.tag == 2) (reference (variable r.number))
-    (operation r.number))
+use Rattle.routine.specs.Rows.{variable, item, tag_of}
+use Rattle.routine.specs.declared.rows.Joint.{Joint}
+use Rattle.routine.specs.declared.rows.Tag.{Tag}
+use Rattle.routine.specs.declared.rows.Tag.TheVariants.{Assert, Assume, Assign, Skip, Raise, Join}
+use Rattle.routine.specs.Commands.{Term, Single, assert, assume, assign, skip, raise, Command, single, join, size, depth}
 
 -- the count rows from row `from` on
 abbrev pub part : List TermRow → ℕ → ℕ → List TermRow
@@ -56,21 +50,18 @@ module _ (v ops : ℕ) where
     abbrev pub with_term : CommandRow → (Term Variable → Single) → Result Reading Refusal
     with_term r c = cond (has_term r) (Ok (alone (c (term_of terms r)))) (Err BadTerm)
 
-    -- what a command row of this tag says
-    abbrev pub reading_at : ℕ → CommandRow → Result Reading Refusal
-    reading_at tag r =
-        cond (tag == 1) (with_term r assert)
-        (cond (tag == 2) (with_term r assume)
-        (cond (tag == 3) (cond (nat_lt r.target v) (with_term r (assign (variable r.target))) (Err Target))
-        (cond (tag == 4) (Ok (alone skip))
-        (cond (tag == 5) (Ok (alone raise))
-        (cond (tag == 6) (Ok (joins sequence))
-        (cond (tag == 7) (Ok (joins choice))
-        (cond (tag == 8) (Ok (joins catch))
-        (Err Tag))))))))
+    -- what a command row with this tag says
+    abbrev pub reading_as : Result Tag Refusal → CommandRow → Result Reading Refusal
+    reading_as (Ok Assert) r = with_term r assert
+    reading_as (Ok Assume) r = with_term r assume
+    reading_as (Ok Assign) r = cond (nat_lt r.target v) (with_term r (assign (variable r.target))) (Err Target)
+    reading_as (Ok Skip) r = Ok (alone skip)
+    reading_as (Ok Raise) r = Ok (alone raise)
+    reading_as (Ok (Join j)) r = Ok (joins j)
+    reading_as (Err e) r = Err e
 
     abbrev pub reading : CommandRow → Result Reading Refusal
-    reading r = reading_at r.tag r
+    reading r = reading_as (tag_of r.tag) r
 
 -- row i joins the last two of the commands finished so far, which stand last first: the right part ends at row i - 1, the left part
 -- at row `left`, just before the right part's first row

@@ -1,4 +1,5 @@
 pub mod Limits
+pub mod Rows
 pub mod Commands
 pub mod Runs
 pub mod Decoding

@@ -2,7 +2,9 @@
 use Rattle.std.specs.Prelude.{◌≡◌, ℕ, Bool, true, false, List, [], ◌∷◌, slice_index_or, slice_set}
 use Rattle.kinds.specs.Kind.{KindOf}
 use Rattle.kinds.specs.declared.numbered.Variable.{Variable}
-use Rattle.routine.specs.Commands.{literal, reference, operation, Term, assert, assume, assign, skip, raise, sequence, choice, catch, Command, single, join}
+use Rattle.routine.specs.declared.rows.Item.TheVariants.{Literal, Reference, Operation}
+use Rattle.routine.specs.declared.rows.Joint.TheVariants.{Sequence, Choice, Catch}
+use Rattle.routine.specs.Commands.{Term, assert, assume, assign, skip, raise, Command, single, join}
 
 module _ {V : Type 0} (K : KindOf V) where
   -- an operation takes the last two waiting values, the earlier as first operand; the last stands first in the list
@@ -18,9 +20,9 @@ module _ {V : Type 0} (K : KindOf V) where
   module _ {R : Type 0} (look : R → V) where
     abbrev pub waiting_after : Term R → List V → List V
     waiting_after [] waiting = waiting
-    waiting_after (literal n ∷ t) waiting = waiting_after t (K.literal n ∷ waiting)
-    waiting_after (reference r ∷ t) waiting = waiting_after t (look r ∷ waiting)
-    waiting_after (operation k ∷ t) waiting = waiting_after t (operate_on k waiting)
+    waiting_after (Literal n ∷ t) waiting = waiting_after t (K.literal n ∷ waiting)
+    waiting_after (Reference r ∷ t) waiting = waiting_after t (look r ∷ waiting)
+    waiting_after (Operation k ∷ t) waiting = waiting_after t (operate_on k waiting)
 
     -- the value of a term, where each reference has the value that look gives it
     abbrev pub value : Term R → V
@@ -51,13 +53,13 @@ module _ {V : Type 0} (K : KindOf V) where
     assigns : {x : Variable} {t : Term Variable} {s : State V} → Run (single (assign x t)) s (normal (slice_set s x.0 (value_in s t)))
     skips : {s : State V} → Run (single skip) s (normal s)
     raises : {s : State V} → Run (single raise) s (raised s)
-    sequence_on : {a b : Command} {s m : State V} {o : Outcome V} → Run a s (normal m) → Run b m o → Run (join sequence a b) s o
-    sequence_raised : {a b : Command} {s m : State V} → Run a s (raised m) → Run (join sequence a b) s (raised m)
-    sequence_wrong : {a b : Command} {s : State V} → Run a s wrong → Run (join sequence a b) s wrong
-    sequence_blocked : {a b : Command} {s : State V} → Run a s blocked → Run (join sequence a b) s blocked
-    catch_on : {a b : Command} {s m : State V} {o : Outcome V} → Run a s (raised m) → Run b m o → Run (join catch a b) s o
-    catch_normal : {a b : Command} {s m : State V} → Run a s (normal m) → Run (join catch a b) s (normal m)
-    catch_wrong : {a b : Command} {s : State V} → Run a s wrong → Run (join catch a b) s wrong
-    catch_blocked : {a b : Command} {s : State V} → Run a s blocked → Run (join catch a b) s blocked
-    choice_left : {a b : Command} {s : State V} {o : Outcome V} → Run a s o → Run (join choice a b) s o
-    choice_right : {a b : Command} {s : State V} {o : Outcome V} → Run b s o → Run (join choice a b) s o
+    sequence_on : {a b : Command} {s m : State V} {o : Outcome V} → Run a s (normal m) → Run b m o → Run (join Sequence a b) s o
+    sequence_raised : {a b : Command} {s m : State V} → Run a s (raised m) → Run (join Sequence a b) s (raised m)
+    sequence_wrong : {a b : Command} {s : State V} → Run a s wrong → Run (join Sequence a b) s wrong
+    sequence_blocked : {a b : Command} {s : State V} → Run a s blocked → Run (join Sequence a b) s blocked
+    catch_on : {a b : Command} {s m : State V} {o : Outcome V} → Run a s (raised m) → Run b m o → Run (join Catch a b) s o
+    catch_normal : {a b : Command} {s m : State V} → Run a s (normal m) → Run (join Catch a b) s (normal m)
+    catch_wrong : {a b : Command} {s : State V} → Run a s wrong → Run (join Catch a b) s wrong
+    catch_blocked : {a b : Command} {s : State V} → Run a s blocked → Run (join Catch a b) s blocked
+    choice_left : {a b : Command} {s : State V} {o : Outcome V} → Run a s o → Run (join Choice a b) s o
+    choice_right : {a b : Command} {s : State V} {o : Outcome V} → Run b s o → Run (join Choice a b) s o

@@ -4,8 +4,12 @@ use Rattle.kinds.specs.declared.numbered.Variable.{Variable}
 use Rattle.routine.specs.declared.rows.TermRow.{TermRow}
 use Rattle.routine.specs.declared.rows.CommandRow.{CommandRow}
 use Rattle.routine.specs.Limits.{most_waiting, deepest}
-use Rattle.routine.specs.Commands.{literal, reference, operation, Term, Single, assert, assume, assign, skip, raise, Joint, sequence, choice, catch, Command, single, join, size, depth}
-use Rattle.routine.specs.Decoding.{variable, term_of, has_term, within_limits, decode}
+use Rattle.routine.specs.declared.rows.Item.TheVariants.{Literal, Reference, Operation}
+use Rattle.routine.specs.declared.rows.Joint.{Joint}
+use Rattle.routine.specs.declared.rows.Joint.TheVariants.{Sequence, Choice, Catch}
+use Rattle.routine.specs.Commands.{Term, Single, assert, assume, assign, skip, raise, Command, single, join, size, depth}
+use Rattle.routine.specs.Rows.{variable}
+use Rattle.routine.specs.Decoding.{term_of, has_term, within_limits, decode}
 
 abbrev pub no_row : CommandRow
 no_row = record { tag = 0; target = 0; from = 0; count = 0; left = 0 }
@@ -18,17 +22,17 @@ single_tag skip = 4
 single_tag raise = 5
 
 abbrev pub joint_tag : Joint → ℕ
-joint_tag sequence = 6
-joint_tag choice = 7
-joint_tag catch = 8
+joint_tag Sequence = 6
+joint_tag Choice = 7
+joint_tag Catch = 8
 
 -- a term can be worked out where w values wait: at most 16 wait at once and one remains; each reference is known, and each operation is
 -- below ops
 abbrev pub Workable : {R : Type 0} → (R → Type 0) → ℕ → ℕ → Term R → Type 0
 Workable Known ops w [] = w ≡ 1
-Workable Known ops w (literal n ∷ t) = (w < most_waiting) × Workable Known ops (w + 1) t
-Workable Known ops w (reference r ∷ t) = (w < most_waiting) × Known r × Workable Known ops (w + 1) t
-Workable Known ops w (operation k ∷ t) = (2 ≤ w) × (k < ops) × Workable Known ops (w - 1) t
+Workable Known ops w (Literal n ∷ t) = (w < most_waiting) × Workable Known ops (w + 1) t
+Workable Known ops w (Reference r ∷ t) = (w < most_waiting) × Known r × Workable Known ops (w + 1) t
+Workable Known ops w (Operation k ∷ t) = (2 ≤ w) × (k < ops) × Workable Known ops (w - 1) t
 
 module _ (v ops : ℕ) where
   -- the term reads no variable but those below v

@@ -2,21 +2,12 @@
 ghost use Rattle.std.specs.Prelude.{◌≡◌, ℕ, ◌+◌, ◌≤◌, ◌&&◌, length};
 ghost use Rattle.routine.specs.Decoding.{part, well_formed, has_term, reading, decode, verdict};
 ghost use Rattle.routine.specs.Standing.{DecodingSound, DecodingComplete};
-ghost use Rattle.routine.specs.Checking.{stepped, shape, Ready, joined_part, part_at};
+ghost use Rattle.routine.specs.Checking.{stepped, Ready, joined_part, part_at};
 
-use crate::rows::{CommandRow, TermRow};
+use crate::limits::{DEEPEST, MOST_COMMANDS, MOST_TERMS, MOST_VARIABLES, MOST_WAITING};
+use crate::rows::{CommandRow, Tag, TermRow};
 use kinds::kind::Kind;
 use kinds::refusals::Refusal;
-
-const MOST_VARIABLES: u32 = 32;
-
-const MOST_COMMANDS: usize = 1023;
-
-const MOST_TERMS: usize = 4096;
-
-const MOST_WAITING: u32 = 16;
-
-const DEEPEST: u32 = 64;
 
 // How many values wait after one more row of a term, or `None` where the row may not stand there.
 fn waiting_after_row(v: u32, ops: u32, waiting: u32, row: TermRow) -> Option<u32>
@@ -63,32 +54,6 @@ fn row_has_term(v: u32, ops: u32, terms: &[TermRow], row: CommandRow) -> bool
     end <= terms.len() && rows_make_a_term(v, ops, &terms[first..end])
 }
 
-#[derive(Clone, Copy)]
-enum Shape {
-    Alone,
-    Joins,
-}
-
-// Whether a row is a single command or joins the two before it.
-fn read_row(v: u32, ops: u32, terms: &[TermRow], row: CommandRow) -> Result<Shape, Refusal>
-    ensures { result ≡ shape (reading v ops terms.now row) }
-{
-    match row.tag {
-        1..=3 => {
-            if row.tag == 3 && row.target >= v {
-                Err(Refusal::Target)
-            } else if row_has_term(v, ops, terms, row) {
-                Ok(Shape::Alone)
-            } else {
-                Err(Refusal::Term)
-            }
-        }
-        4 | 5 => Ok(Shape::Alone),
-        6..=8 => Ok(Shape::Joins),
-        _ => Err(Refusal::Tag),
-    }
-}
-
 // Of a command, its first row and its depth.
 #[derive(Clone, Copy)]
 struct Part {
@@ -130,12 +95,15 @@ fn place(
     row: CommandRow,
 ) -> Result<Part, Refusal>
     requires { Ready parts.now i }
-    ensures { result ≡ part_at parts.now i row.left (shape (reading v ops terms.now row)) }
+    ensures { result ≡ part_at parts.now i row.left (reading v ops terms.now row) }
 {
-    match read_row(v, ops, terms, row) {
-        Ok(Shape::Alone) => Ok(Part { first: i, depth: 1 }),
-        Ok(Shape::Joins) => join_at(parts, i, row.left),
-        Err(e) => Err(e),
+    match Tag::try_from(row.tag)? {
+        Tag::Assign if row.target >= v => Err(Refusal::Target),
+        Tag::Assert | Tag::Assume | Tag::Assign if !row_has_term(v, ops, terms, row) => {
+            Err(Refusal::Term)
+        }
+        Tag::Join(_) => join_at(parts, i, row.left),
+        _ => Ok(Part { first: i, depth: 1 }),
     }
 }
 

@@ -3,4 +3,5 @@
 #![tactic(auto)]
 
 pub mod checks;
+pub mod limits;
 pub mod rows;

@@ -1,4 +1,9 @@
-// The rows of a routine, raw as callers pass them.
+// The rows of a routine, raw as callers pass them, and what they say.
+ghost use Rattle.std.specs.Prelude.{◌≡◌};
+ghost use Rattle.routine.specs.Rows.{tag_of, item};
+
+use kinds::numbered::Variable;
+use kinds::refusals::Refusal;
 
 // A row of a postfix term. Tags: 1 literal, 2 variable, 3 operation.
 #[derive(Clone, Copy, Debug, PartialEq, Eq)]
@@ -17,4 +22,64 @@ pub struct CommandRow {
     pub from: u32,
     pub count: u32,
     pub left: u32,
+}
+
+// One item of a postfix term: R is what it may refer to, a variable here and a name in the passive form.
+#[derive(Clone, Copy, Debug, PartialEq, Eq)]
+pub enum Item<R> {
+    Literal(u16),
+    Reference(R),
+    Operation(u16),
+}
+
+// What joins two commands.
+#[derive(Clone, Copy, Debug, PartialEq, Eq)]
+pub enum Joint {
+    Sequence,
+    Choice,
+    Catch,
+}
+
+// What a command row is.
+#[derive(Clone, Copy, Debug, PartialEq, Eq)]
+pub enum Tag {
+    Assert,
+    Assume,
+    Assign,
+    Skip,
+    Raise,
+    Join(Joint),
+}
+
+impl TryFrom<u32> for Tag {
+    type Error = Refusal;
+
+    ghost try_from_gives = { λ number r. r ≡ tag_of number };
+
+    fn try_from(number: u32) -> Result<Tag, Refusal> {
+        match number {
+            1 => Ok(Tag::Assert),
+            2 => Ok(Tag::Assume),
+            3 => Ok(Tag::Assign),
+            4 => Ok(Tag::Skip),
+            5 => Ok(Tag::Raise),
+            6 => Ok(Tag::Join(Joint::Sequence)),
+            7 => Ok(Tag::Join(Joint::Choice)),
+            8 => Ok(Tag::Join(Joint::Catch)),
+            _ => Err(Refusal::Tag),
+        }
+    }
+}
+
+// What a row says in a term that is well formed: tags other than 1 and 2 are 3.
+impl From<TermRow> for Item<Variable> {
+    ghost from_gives = { λ row i. i ≡ item row };
+
+    fn from(row: TermRow) -> Item<Variable> {
+        match row.tag {
+            1 => Item::Literal(row.number),
+            2 => Item::Reference(Variable(u32::from(row.number))),
+            _ => Item::Operation(row.number),
+        }
+    }
 }

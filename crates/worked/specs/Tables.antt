@@ -3,8 +3,10 @@ use Rattle.std.specs.Prelude.{ℕ, List, [], ◌∷◌}
 use Rattle.kinds.specs.declared.numbered.Variable.{Variable}
 use Rattle.routine.specs.declared.rows.TermRow.{TermRow}
 use Rattle.routine.specs.declared.rows.CommandRow.{CommandRow}
-use Rattle.routine.specs.Commands.{literal, reference, operation, Term, assert, assume, assign, skip, raise, sequence, choice, catch, Command, single, join}
-use Rattle.routine.specs.Decoding.{variable}
+use Rattle.routine.specs.declared.rows.Item.TheVariants.{Literal, Reference, Operation}
+use Rattle.routine.specs.declared.rows.Joint.TheVariants.{Sequence, Choice, Catch}
+use Rattle.routine.specs.Commands.{Term, assert, assume, assign, skip, raise, Command, single, join}
+use Rattle.routine.specs.Rows.{variable}
 
 -- rows of terms
 
@@ -53,15 +55,15 @@ catch_row left = joint_command 8 left
 
 -- 0 < v0
 abbrev pub positive : Term Variable
-positive = literal 0 ∷ reference (variable 0) ∷ operation 3 ∷ []
+positive = Literal 0 ∷ Reference (variable 0) ∷ Operation 3 ∷ []
 
 -- v0 - 1
 abbrev pub one_less : Term Variable
-one_less = reference (variable 0) ∷ literal 1 ∷ operation 1 ∷ []
+one_less = Reference (variable 0) ∷ Literal 1 ∷ Operation 1 ∷ []
 
 -- (v0 < 0) = 0
 abbrev pub not_negative : Term Variable
-not_negative = reference (variable 0) ∷ literal 0 ∷ operation 3 ∷ literal 0 ∷ operation 4 ∷ []
+not_negative = Reference (variable 0) ∷ Literal 0 ∷ Operation 3 ∷ Literal 0 ∷ Operation 4 ∷ []
 
 abbrev pub assume_positive : Command
 assume_positive = single (assume positive)
@@ -70,7 +72,7 @@ abbrev pub assert_not_negative : Command
 assert_not_negative = single (assert not_negative)
 
 abbrev pub assert_zero : Command
-assert_zero = single (assert (literal 0 ∷ []))
+assert_zero = single (assert (Literal 0 ∷ []))
 
 -- set v0 to v0 - 1
 abbrev pub count_down : Command
@@ -78,7 +80,7 @@ count_down = single (assign (variable 0) one_less)
 
 -- set v0 to 1
 abbrev pub set_one : Command
-set_one = single (assign (variable 0) (literal 1 ∷ []))
+set_one = single (assign (variable 0) (Literal 1 ∷ []))
 
 -- C1, of one variable: assume 0 < v0; set v0 to v0 - 1; sequence; assert (v0 < 0) = 0; sequence
 abbrev pub commands_1 : List CommandRow
@@ -91,7 +93,7 @@ terms_1 =
     ∷ variable_row 0 ∷ literal_row 0 ∷ operation_row 3 ∷ literal_row 0 ∷ operation_row 4 ∷ []
 
 abbrev pub routine_1 : Command
-routine_1 = join sequence (join sequence assume_positive count_down) assert_not_negative
+routine_1 = join Sequence (join Sequence assume_positive count_down) assert_not_negative
 
 -- C2, of one variable: set v0 to v0 - 1; assert (v0 < 0) = 0; sequence
 abbrev pub commands_2 : List CommandRow
@@ -103,7 +105,7 @@ terms_2 =
     ∷ variable_row 0 ∷ literal_row 0 ∷ operation_row 3 ∷ literal_row 0 ∷ operation_row 4 ∷ []
 
 abbrev pub routine_2 : Command
-routine_2 = join sequence count_down assert_not_negative
+routine_2 = join Sequence count_down assert_not_negative
 
 -- C3, of no variable: raise
 abbrev pub commands_3 : List CommandRow
@@ -123,7 +125,7 @@ abbrev pub terms_4 : List TermRow
 terms_4 = literal_row 0 ∷ []
 
 abbrev pub routine_4 : Command
-routine_4 = join sequence (single raise) assert_zero
+routine_4 = join Sequence (single raise) assert_zero
 
 -- C5, of one variable: set v0 to 1; skip; choice
 abbrev pub commands_5 : List CommandRow
@@ -133,7 +135,7 @@ abbrev pub terms_5 : List TermRow
 terms_5 = literal_row 1 ∷ []
 
 abbrev pub routine_5 : Command
-routine_5 = join choice set_one (single skip)
+routine_5 = join Choice set_one (single skip)
 
 -- C6, of no variable: raise; assert 0; catch
 abbrev pub commands_6 : List CommandRow
@@ -143,7 +145,7 @@ abbrev pub terms_6 : List TermRow
 terms_6 = literal_row 0 ∷ []
 
 abbrev pub routine_6 : Command
-routine_6 = join catch (single raise) assert_zero
+routine_6 = join Catch (single raise) assert_zero
 
 -- C7, of no variable: skip
 abbrev pub commands_7 : List CommandRow

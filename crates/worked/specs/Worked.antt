@@ -8,7 +8,8 @@ use Rattle.kinds.specs.declared.refusals.Refusal.{Refusal}
 use Rattle.kinds.specs.declared.refusals.Refusal.TheVariants.{Target, Term, Parts, Whole}
 use Rattle.routine.specs.declared.rows.TermRow.{TermRow}
 use Rattle.routine.specs.declared.rows.CommandRow.{CommandRow}
-use Rattle.routine.specs.Commands.{sequence, Command}
+use Rattle.routine.specs.declared.rows.Joint.TheVariants.{Sequence}
+use Rattle.routine.specs.Commands.{Command}
 use Rattle.routine.specs.Decoding.{decode}
 use Rattle.routine.specs.Runs.{wrong, Run}
 use Rattle.passive.specs.Passive.{p_raise, p_stop, p_single, p_join, passive_form}
@@ -70,7 +71,7 @@ pub record WorkedOut : Type 0 where
   pub third_holds : (a : Assignment Number) → holds 0 routine_3 a ≡ true
   -- C4: its passive rows are raise, stop, sequence; true under every assignment
   pub fourth_decoded : decoded 0 commands_4 terms_4 ≡ Ok routine_4
-  pub fourth_form : (passive_form 0 routine_4).code ≡ p_join sequence (p_single p_raise) (p_single p_stop)
+  pub fourth_form : (passive_form 0 routine_4).code ≡ p_join Sequence (p_single p_raise) (p_single p_stop)
   pub fourth_rows : layout (passive_form 0 routine_4).code 0 0 ≡ plain_row 5 ∷ plain_row 10 ∷ joint_row 6 0 ∷ []
   pub fourth_measured : measured 0 commands_4 terms_4 ≡ Ok (figures 0 3 0 6)
   pub fourth_holds : (a : Assignment Number) → holds 0 routine_4 a ≡ true

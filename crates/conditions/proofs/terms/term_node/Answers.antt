@@ -1,5 +1,6 @@
 use Rattle.std.proofs.Common.{◌≡◌, ◌+◌, ◌≤◌, [], ◌∷◌, drop, sym, ap, ◌∙◌, subst, arith}
-use Rattle.conditions.specs.Reading.{item, items}
+use Rattle.passive.specs.Rows.{item}
+use Rattle.conditions.specs.Reading.{items}
 use Rattle.conditions.specs.Made.{TermMade}
 use Rattle.conditions.specs.Asks.{NodesUsed, waiting_in, waiting, waiting_then}
 use Rattle.conditions.proofs.Frames.{grown_none, grown_then, room_later}

@@ -1,8 +1,9 @@
 use Rattle.std.proofs.Common.{map, set, sym, ap, ◌∙◌, add-zero, arith}
 use Rattle.std.proofs.lemmas.List.{take_all}
-use Rattle.routine.specs.Decoding.{item}
+use Rattle.routine.specs.Rows.{item}
 use Rattle.passive.specs.Passive.{renamed}
-use Rattle.passive.specs.Layout.{term_row, put}
+use Rattle.passive.specs.Rows.{term_row}
+use Rattle.passive.specs.Layout.{put}
 use Rattle.passify.specs.Names.{map_of}
 use Rattle.passify.proofs.Putting.{put_nil, put_turn, map_three}
 use Rattle.passify.proofs.passing.rename_term.Goals as goal

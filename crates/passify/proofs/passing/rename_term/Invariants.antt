@@ -1,7 +1,8 @@
 use Rattle.std.proofs.Common.{◌≡◌, ◌+◌, map, take}
-use Rattle.routine.specs.Decoding.{item}
+use Rattle.routine.specs.Rows.{item}
 use Rattle.passive.specs.Passive.{renamed}
-use Rattle.passive.specs.Layout.{term_row, put}
+use Rattle.passive.specs.Rows.{term_row}
+use Rattle.passive.specs.Layout.{put}
 use Rattle.passify.specs.Names.{map_of}
 use Rattle.passify.proofs.passing.rename_term.Given as goal
 
