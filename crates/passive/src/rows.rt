@@ -54,7 +54,7 @@ impl PassiveRow {
         ensures { result ≡ passive_row (tag_number tag) f from count 0 }
     {
         PassiveRow {
-            tag: tag.into(),
+            tag: u32::from(tag),
             f,
             from,
             count,
@@ -67,7 +67,7 @@ impl PassiveRow {
         ensures { result ≡ joint_row (joint_tag joint) left }
     {
         PassiveRow {
-            tag: PassiveTag::Join(joint).into(),
+            tag: u32::from(PassiveTag::Join(joint)),
             left,
             ..PassiveRow::BLANK
         }
@@ -77,10 +77,7 @@ impl PassiveRow {
     pub fn plain(tag: PassiveTag) -> PassiveRow
         ensures { result ≡ plain_row (tag_number tag) }
     {
-        PassiveRow {
-            tag: tag.into(),
-            ..PassiveRow::BLANK
-        }
+        PassiveRow::with_term(tag, Name(0), 0, 0)
     }
 }
 
