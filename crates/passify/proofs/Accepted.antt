@@ -9,14 +9,12 @@ use Rattle.routine.specs.Commands.{Single, assert, assume, assign, skip, raise, 
 use Rattle.routine.specs.Decoding.{rows_from, within_limits, decode}
 use Rattle.routine.specs.Standing.{Fields, row, EndsAt, Stands, Proper}
 use Rattle.routine.proofs.Soundness.{decoding_sound}
-use Rattle.passive.specs.Passive.{p_assert, p_assume, p_let, p_skip, p_raise, p_stop, Passive, p_single, p_join, names_from, passive_form}
+use Rattle.passive.specs.Passive.{p_assert, p_assume, p_let, p_skip, p_raise, p_stop, Passive, p_single, p_join, Names, names_from, passive_form}
 use Rattle.passive.specs.Outcomes.{nodes}
 use Rattle.passive.specs.Layout.{rows, terms}
 use Rattle.passive.specs.Agreement.{Bounded}
 use Rattle.passive.proofs.Bounding.{bounded}
-use Rattle.passify.specs.declared.maps.NameMap.{NameMap}
 use Rattle.passify.specs.declared.measuring.Measured.{Measured}
-use Rattle.passify.specs.Names.{map_of}
 use Rattle.passify.specs.Measuring.{sizes, measured, Fits, Measurable, Measures}
 use Rattle.passify.specs.Checked.{Checked, FormMeasured}
 use Rattle.passify.proofs.Sizes.{measured_is}
@@ -103,15 +101,15 @@ module _ (v ops : ℕ) (cs : List CommandRow) (ts : List TermRow) (c : Command) 
   }
 
 -- the whole routine, from the names that variables start with
-module _ (v : ℕ) (cs : List CommandRow) (m : NameMap) (first : map_of v m ≡ names_from 0 v) where
-  pub start_is : (c : Command) → measured c (Some (map_of v m)) v ≡ sizes (passive_form v c)
-  start_is c = ap (λ n. measured c (Some n) v) first ∙ measured_is c (Some (names_from 0 v)) v
+module _ (v : ℕ) (cs : List CommandRow) (m : Names) (first : m ≡ Some (names_from 0 v)) where
+  pub start_is : (c : Command) → measured c m v ≡ sizes (passive_form v c)
+  start_is c = ap (λ n. measured c n v) first ∙ measured_is c (Some (names_from 0 v)) v
 
-  pub checked_measurable : Checked v cs → (ts : List TermRow) × Measurable v cs ts (length cs - 1) (Some m) v
-  checked_measurable (ops, ts, c, is) = (ts, (ops, c, (stands v ops cs ts c is).ends, subst Fits (sym (start_is c)) (form_fits v ops cs ts c is)))
+  pub checked_measurable : Checked v cs → (ts : List TermRow) × Measurable cs ts (length cs - 1) m v
+  checked_measurable (ops, ts, c, is) = (ts, (v, ops, c, (stands v ops cs ts c is).ends, subst Fits (sym (start_is c)) (form_fits v ops cs ts c is)))
 
-  pub checked_measured : (r : Measured) → ((ts : List TermRow) → Measures v cs ts (length cs - 1) (Some m) v r) → FormMeasured v cs r
-  checked_measured r h ops ts c is = h ts ops c (stands v ops cs ts c is).ends ∙ start_is c
+  pub checked_measured : (r : Measured) → ((ts : List TermRow) → Measures cs ts (length cs - 1) m v r) → FormMeasured v cs r
+  checked_measured r h ops ts c is = h ts v ops c (stands v ops cs ts c is).ends ∙ start_is c
 
 pub checked_few : (v : ℕ) (cs : List CommandRow) → Checked v cs → (v ≤ 32) × (0 < length cs) × (length cs ≤ 1023)
 checked_few v cs (ops, ts, c, is) = (few_variables v ops cs ts c is, some_rows v ops cs ts c is, few_rows v ops cs ts c is)

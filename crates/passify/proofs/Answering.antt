@@ -8,18 +8,16 @@ use Rattle.routine.specs.declared.rows.TermRow.{TermRow}
 use Rattle.routine.specs.declared.rows.CommandRow.{CommandRow}
 use Rattle.routine.specs.Commands.{Command}
 use Rattle.routine.specs.Decoding.{decode, verdict}
-use Rattle.passive.specs.Passive.{Passified, names_from, passify, passive_form}
+use Rattle.passive.specs.Passive.{Names as Maps, Passified, names_from, passify, passive_form}
 use Rattle.passive.specs.Layout.{rows, terms, term_rows, layout, put}
 use Rattle.passive.specs.declared.rows.PassiveTermRow.{PassiveTermRow}
 use Rattle.passive.specs.declared.rows.PassiveRow.{PassiveRow}
 use Rattle.passive.proofs.Agreeing.{agreement}
-use Rattle.passify.specs.declared.maps.NameMap.{NameMap}
 use Rattle.passify.specs.declared.measuring.Measured.{Measured}
 use Rattle.passify.specs.declared.writing.Place.{Place}
 use Rattle.passify.specs.declared.passing.Passed.{Passed}
 use Rattle.passify.specs.declared.calls.FormLengths.{FormLengths}
-use Rattle.passify.specs.Names.{map_of}
-use Rattle.passify.specs.Measuring.{Sizes, sizes, Fits, sizes_of}
+use Rattle.passify.specs.Measuring.{sizes, Fits}
 use Rattle.passify.specs.Pieces.{form_piece, Wrote, Room}
 use Rattle.passify.specs.Writing.{Writable, Written}
 use Rattle.passify.specs.Calls.{most_names, form_lengths, passify_answer, rows_after, terms_after, AgreesWithRuns}
@@ -38,7 +36,7 @@ pub terms_kept : (v : ℕ) (d : Result Command Refusal) (e : Refusal) (T : List 
 terms_kept v (Ok c) e T = refl
 terms_kept v (Err f) e T = refl
 
-module _ (v : ℕ) (d : Result Command Refusal) (c : Command) (is : d ≡ Ok c) (f : Measured) (fm : sizes_of v f ≡ sizes (passive_form v c)) (E : List PassiveRow) (T : List PassiveTermRow) where
+module _ (v : ℕ) (d : Result Command Refusal) (c : Command) (is : d ≡ Ok c) (f : Measured) (fm : f ≡ sizes (passive_form v c)) (E : List PassiveRow) (T : List PassiveTermRow) where
   abbrev form : Passified
   form = passive_form v c
 
@@ -49,14 +47,14 @@ module _ (v : ℕ) (d : Result Command Refusal) (c : Command) (is : d ≡ Ok c) 
   answer_is b s eb es = ap (λ x. passify_answer v x (length E) (length T)) is ∙ (λ t. cond (eb t) (cond (es t) (Ok (form_lengths v c)) (Err WorkTable)) (Err Names))
 
   same_test : (leb f.rows (length E) && leb f.terms (length T)) ≡ short
-  same_test = ap (λ (s : Sizes). leb s.rows (length E) && leb s.terms (length T)) fm
+  same_test = ap (λ (s : Measured). leb s.rows (length E) && leb s.terms (length T)) fm
 
   few_names : f.next ≤ 4096 → leb form.next most_names ≡ true
-  few_names h = let e = ap (λ (s : Sizes). s.next) fm in grind (arith, nat_tests)
+  few_names h = let e = ap (λ (s : Measured). s.next) fm in grind (arith, nat_tests)
 
   pub too_many : 4096 < f.next → Err Names ≡ passify_answer v d (length E) (length T)
   too_many h =
-      let e = ap (λ (s : Sizes). s.next) fm in
+      let e = ap (λ (s : Measured). s.next) fm in
       let t : leb form.next most_names ≡ false = grind (arith, nat_tests) in
       sym (answer_is false short t refl)
 
@@ -65,15 +63,15 @@ module _ (v : ℕ) (d : Result Command Refusal) (c : Command) (is : d ≡ Ok c) 
 
   module _ (few : f.next ≤ 4096) (room : (leb f.rows (length E) && leb f.terms (length T)) ≡ true) where
     lengths_are : form_lengths v c ≡ record { names = f.next; rows = f.rows; terms = f.terms }
-    lengths_are = ap (λ (s : Sizes). record { names = s.next; rows = s.rows; terms = s.terms }) (sym fm)
+    lengths_are = ap (λ (s : Measured). record { names = s.next; rows = s.rows; terms = s.terms }) (sym fm)
 
     pub enough : Ok (record { names = f.next; rows = f.rows; terms = f.terms }) ≡ passify_answer v d (length E) (length T)
     enough = ap Ok (sym lengths_are) ∙ sym (answer_is true true (few_names few) (sym same_test ∙ room))
 
     pub form_room : Fits (sizes form) → Room (form_piece form.code 0 0) (record { row = 0; term = 0 }) E T
     form_room fits =
-        let er = ap (λ (s : Sizes). s.rows) fm in
-        let et = ap (λ (s : Sizes). s.terms) fm in
+        let er = ap (λ (s : Measured). s.rows) fm in
+        let et = ap (λ (s : Measured). s.terms) fm in
         let lr = length_layout form.code 0 0 in
         let lt = length_term_rows form.code in
         let hr : f.rows ≤ length E = grind (arith, nat_tests) in
@@ -92,17 +90,18 @@ module _ (v : ℕ) (d : Result Command Refusal) (c : Command) (is : d ≡ Ok c) 
   terms_are l = ap (λ x. terms_after v x (Ok l) T) (sym is)
 
 -- the whole routine, written from the front
-module _ (v ops : ℕ) (cs : List CommandRow) (ts : List TermRow) (c : Command) (is : decode v ops cs ts ≡ Ok c) (m : NameMap) (first : map_of v m ≡ names_from 0 v)
+module _ (v ops : ℕ) (cs : List CommandRow) (ts : List TermRow) (c : Command) (is : decode v ops cs ts ≡ Ok c) (m : Maps) (first : m ≡ Some (names_from 0 v))
     (E : List PassiveRow) (T : List PassiveTermRow)
   where
     abbrev front : Place
     front = record { row = 0; term = 0 }
 
-    same_form : passify c (Some (map_of v m)) v ≡ passive_form v c
-    same_form = ap (λ n. passify c (Some n) v) first
+    same_form : passify c m v ≡ passive_form v c
+    same_form = ap (λ n. passify c n v) first
 
-    pub form_writable : Room (form_piece (passive_form v c).code 0 0) front E T → Writable v cs ts (length cs - 1) (Some m) v front E T
+    pub form_writable : Room (form_piece (passive_form v c).code 0 0) front E T → Writable cs ts (length cs - 1) m v front E T
     form_writable room = (
+      v,
       ops,
       c,
       (stands v ops cs ts c is).ends,
@@ -111,10 +110,10 @@ module _ (v ops : ℕ) (cs : List CommandRow) (ts : List TermRow) (c : Command) 
     )
 
     pub form_written :
-        (E' : List PassiveRow) (T' : List PassiveTermRow) (r : Passed) → Written v cs ts (length cs - 1) (Some m) v front E E' T T' r
+        (E' : List PassiveRow) (T' : List PassiveTermRow) (r : Passed) → Written cs ts (length cs - 1) m v front E E' T T' r
         → (E' ≡ put E 0 (layout (passive_form v c).code 0 0)) × (T' ≡ put T 0 (term_rows (passive_form v c).code))
     form_written E' T' r w =
-        let z = subst (λ (p : Passified). Wrote (form_piece p.code 0 0) front E E' T T' r.end) same_form (w ops c (stands v ops cs ts c is).ends).1 in
+        let z = subst (λ (p : Passified). Wrote (form_piece p.code 0 0) front E E' T T' r.end) same_form (w v ops c (stands v ops cs ts c is).ends).1 in
         (z.rows_in, z.terms_in)
 
 pub agrees : {V : Type 0} (K : KindOf V) (v : ℕ) (cs : List CommandRow) (ts : List TermRow) → AgreesWithRuns K v (decode v K.ops cs ts)

@@ -1,31 +1,15 @@
 -- What tail and guard put behind a part, from the lets on.
-use Rattle.std.proofs.Common.{◌≡◌, ℕ, ◌+◌, ◌-◌, ◌*◌, ◌^◌, ◌<◌, ◌≤◌, List, [], ◌∷◌, ◌++◌, length, Some, None, Option, sym, refl, ap, ◌∙◌, append_assoc, append-nil, arith}
+use Rattle.std.proofs.Common.{◌≡◌, ℕ, ◌+◌, ◌-◌, ◌*◌, ◌^◌, ◌<◌, ◌≤◌, List, [], ◌∷◌, ◌++◌, length, sym, refl, ap, ◌∙◌, append_assoc, append-nil, arith}
 use Rattle.passive.specs.Passive.{Renamed}
+use Rattle.passify.specs.declared.maps.Exits.{Exits}
 use Rattle.passive.specs.Layout.{plain_row, joint_row}
 use Rattle.passive.specs.declared.rows.PassiveTermRow.{PassiveTermRow}
 use Rattle.passive.specs.declared.rows.PassiveRow.{PassiveRow}
-use Rattle.passify.specs.declared.maps.NameMap.{NameMap}
 use Rattle.passify.specs.declared.writing.Place.{Place}
 use Rattle.passify.specs.Pieces.{Piece, ◌then◌, one_row, old_terms, lets, tail_rows, lets_piece, tail_piece, guard_piece, Wrote, Room}
 use Rattle.passify.specs.Writing.{renamings, next_after, side}
 use Rattle.passify.proofs.Parts.{length_old_terms, length_lets, length_tail_rows}
-use Rattle.passify.proofs.Wrotes.{wrote_none, wrote_then, wrote_as, room_as, room_first, room_second}
-
--- where a map is absent there is nothing to rename
-pub record NothingRenamed (v : ℕ) (a b : Option NameMap) (k : ℕ) : Type 0 where
-  pub none : renamings v a b k ≡ []
-  pub next : k ≡ next_after v a b k
-
-pub left_absent : (v : ℕ) (a b : Option NameMap) (k : ℕ) → a ≡ None → NothingRenamed v a b k
-left_absent v a b k e = record { none = ap (λ x. renamings v x b k) e; next = ap (λ x. next_after v x b k) (sym e) }
-
-pub right_absent : (v : ℕ) (a b : Option NameMap) (k : ℕ) (x : NameMap) → a ≡ Some x → b ≡ None → NothingRenamed v a b k
-right_absent v a b k x e f = record { none = λ t. renamings v (e t) (f t) k; next = λ t. next_after v (sym e t) (sym f t) k }
-
-pub nothing_written :
-    (v : ℕ) (a b : Option NameMap) (k : ℕ) (at : Place) (E : List PassiveRow) (T : List PassiveTermRow) → NothingRenamed v a b k
-    → Wrote (lets_piece (renamings v a b k) at.row at.term) at E E T T at
-nothing_written v a b k at E T n = wrote_as (ap (λ rs. lets_piece rs at.row at.term) (sym n.none)) (wrote_none at E T)
+use Rattle.passify.proofs.Wrotes.{wrote_then, wrote_as, room_as, room_first, room_second}
 
 tail_split : (r : Renamed) (rs : List Renamed) (i j : ℕ) → lets_piece (r ∷ rs) i j then one_row (joint_row 6 (i - 1)) ≡ tail_piece (r ∷ rs) i j
 tail_split r rs i j = λ t. record { rows = tail_rows (r ∷ rs) i j; terms = append-nil (old_terms (r ∷ rs)) t }
@@ -131,25 +115,25 @@ module _ (at : Place) (E : List PassiveRow) (T : List PassiveTermRow) where
       some_guard E2 E3 E4 f g h u1 u2 u3 hr ht = wrote_as guard_parts (wrote_then (wrote_then (wrote_then w u1 hr ht) u2 hr ht) u3 hr ht)
 
 -- the guard behind a tail stands where the tail ends
-module _ (v : ℕ) (na nb xa xb : Option NameMap) (k : ℕ) (at : Place) (E E1 : List PassiveRow) (T T1 : List PassiveTermRow) (e : Place) (k' : ℕ)
-    (w : Wrote (tail_piece (renamings v na nb k) at.row at.term) at E E1 T T1 e) (next : k' ≡ next_after v na nb k)
+module _ (a b : Exits) (k : ℕ) (at : Place) (E E1 : List PassiveRow) (T T1 : List PassiveTermRow) (e : Place) (k' : ℕ)
+    (w : Wrote (tail_piece (renamings a.normal b.normal k) at.row at.term) at E E1 T T1 e) (next : k' ≡ next_after a.normal b.normal k)
   where
     abbrev tail_there : Piece
-    tail_there = tail_piece (renamings v na nb k) at.row at.term
+    tail_there = tail_piece (renamings a.normal b.normal k) at.row at.term
 
     abbrev guard_there : Piece
-    guard_there = guard_piece (renamings v xa xb k') e.row e.term
+    guard_there = guard_piece (renamings a.raised b.raised k') e.row e.term
 
-    sides_are : tail_there then guard_there ≡ side v na nb xa xb k at
+    sides_are : tail_there then guard_there ≡ side a b k at
     sides_are =
-        let i : e.row ≡ at.row + 2 * length (renamings v na nb k) = w.row_end ∙ ap (λ n. at.row + n) (length_tail_rows (renamings v na nb k) at.row at.term) in
-        let j : e.term ≡ at.term + length (renamings v na nb k) = w.term_end ∙ ap (λ n. at.term + n) (length_old_terms (renamings v na nb k)) in
-        λ t. tail_there then guard_piece (renamings v xa xb (next t)) (i t) (j t)
+        let i : e.row ≡ at.row + 2 * length (renamings a.normal b.normal k) = w.row_end ∙ ap (λ n. at.row + n) (length_tail_rows (renamings a.normal b.normal k) at.row at.term) in
+        let j : e.term ≡ at.term + length (renamings a.normal b.normal k) = w.term_end ∙ ap (λ n. at.term + n) (length_old_terms (renamings a.normal b.normal k)) in
+        λ t. tail_there then guard_piece (renamings a.raised b.raised (next t)) (i t) (j t)
 
-    pub guard_room : Room (side v na nb xa xb k at) at E T → Room guard_there e E1 T1
+    pub guard_room : Room (side a b k at) at E T → Room guard_there e E1 T1
     guard_room r = room_second tail_there guard_there w (room_as (sym sides_are) r)
 
     pub side_written :
         (E2 : List PassiveRow) (T2 : List PassiveTermRow) (f : Place) → Wrote guard_there e E1 E2 T1 T2 f → at.row ≤ length E → at.term ≤ length T
-        → Wrote (side v na nb xa xb k at) at E E2 T T2 f
+        → Wrote (side a b k at) at E E2 T T2 f
     side_written E2 T2 f u hr ht = wrote_as sides_are (wrote_then w u hr ht)

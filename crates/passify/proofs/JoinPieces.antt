@@ -2,16 +2,15 @@
 use Rattle.std.proofs.Common.{◌≡◌, ℕ, ◌+◌, ◌-◌, ◌^◌, ◌<◌, ◌≤◌, List, length, sym, refl, ap, ◌∙◌, arith}
 use Rattle.routine.specs.declared.rows.Joint.{Joint}
 use Rattle.routine.specs.Standing.{joint_tag}
-use Rattle.passive.specs.Passive.{Passive, p_single, p_join, Merge, merge, Passified, leaves_normal, leaves_raised, joined}
+use Rattle.passive.specs.Passive.{Passive, p_single, p_join, Merge, merge, Passified, joined}
 use Rattle.passive.specs.Layout.{rows, terms, joint_row}
 use Rattle.passive.specs.declared.rows.PassiveTermRow.{PassiveTermRow}
 use Rattle.passive.specs.declared.rows.PassiveRow.{PassiveRow}
 use Rattle.passive.proofs.Endings.{normal_merge, raised_merge}
 use Rattle.passify.specs.declared.measuring.Measured.{Measured}
-use Rattle.passify.specs.declared.measuring.Leaving.{Leaving}
+use Rattle.passify.specs.declared.maps.Exits.{Exits}
 use Rattle.passify.specs.declared.writing.Place.{Place}
-use Rattle.passify.specs.Names.{names_of, merged}
-use Rattle.passify.specs.Measuring.{Sizes, sizes, joined_sizes, Fits, sizes_of}
+use Rattle.passify.specs.Measuring.{sizes, leaving, joined_sizes, Fits}
 use Rattle.passify.specs.Pieces.{Piece, ◌then◌, one_row, form_piece, side_piece, Wrote, Room}
 use Rattle.passify.specs.Writing.{renamings, next_after, side}
 use Rattle.passify.proofs.Sizes.{merge_swap}
@@ -87,120 +86,116 @@ module _ (j : Joint) (a b : Passified) where
       first_room room = room_first first_piece (left_side i1 j1) (room_two room)
 
 -- what the code knows of two parts whose passive forms are a and b, joined by j
-module _ (v : ℕ) (j : Joint) (a b : Passified) (l r : Measured) (is_l : sizes_of v l ≡ sizes a) (is_r : sizes_of v r ≡ sizes b) (out : Leaving)
-    (leaves_n : names_of v out.normal ≡ leaves_normal j (names_of v l.normal))
-    (leaves_x : names_of v out.raised ≡ leaves_raised j (names_of v l.raised))
-  where
-    n_is : merged v out.normal r.normal r.next ≡ normal_merge j a b
-    n_is =
-        let e = leaves_n ∙ ap (λ (s : Sizes). leaves_normal j s.normal) is_l in
-        λ t. merge (e t) (is_r t).normal (is_r t).next
+module _ (j : Joint) (a b : Passified) (l r : Measured) (is_l : l ≡ sizes a) (is_r : r ≡ sizes b) (out : Exits) (is_out : out ≡ leaving j l.exits) where
+  out_is : out ≡ leaving j (sizes a).exits
+  out_is = is_out ∙ ap (λ (s : Measured). leaving j s.exits) is_l
 
-    x_is : merged v out.raised r.raised (next_after v out.normal r.normal r.next) ≡ raised_merge j a b
-    x_is =
-        let e = leaves_x ∙ ap (λ (s : Sizes). leaves_raised j s.raised) is_l in
-        λ t. merge (e t) (is_r t).raised (n_is t).next
+  n_is : merge out.normal r.exits.normal r.next ≡ normal_merge j a b
+  n_is = λ t. merge (out_is t).normal (is_r t).exits.normal (is_r t).next
 
-    -- the same two maps, from the right part
-    n_swapped : (renamings v r.normal out.normal r.next ≡ (normal_merge j a b).right) × (next_after v r.normal out.normal r.next ≡ (normal_merge j a b).next)
-    n_swapped =
-        let s = merge_swap (names_of v out.normal) (names_of v r.normal) r.next in
-        (s.0 ∙ ap (λ (m : Merge). m.right) n_is, s.1 ∙ ap (λ (m : Merge). m.next) n_is)
+  x_is : merge out.raised r.exits.raised (next_after out.normal r.exits.normal r.next) ≡ raised_merge j a b
+  x_is = λ t. merge (out_is t).raised (is_r t).exits.raised (n_is t).next
 
-    x_swapped :
-        (renamings v r.raised out.raised (next_after v r.normal out.normal r.next) ≡ (raised_merge j a b).right)
-        × (next_after v r.raised out.raised (next_after v r.normal out.normal r.next) ≡ (raised_merge j a b).next)
-    x_swapped =
-        let k = next_after v r.normal out.normal r.next in
-        let s = merge_swap (names_of v out.raised) (names_of v r.raised) k in
-        let same : merged v out.raised r.raised k ≡ raised_merge j a b =
-        ap (λ n. merged v out.raised r.raised n) (n_swapped.1 ∙ ap (λ (m : Merge). m.next) (sym n_is)) ∙ x_is in
-        (s.0 ∙ ap (λ (m : Merge). m.right) same, s.1 ∙ ap (λ (m : Merge). m.next) same)
+  -- the same two maps, from the right part
+  n_swapped : (renamings r.exits.normal out.normal r.next ≡ (normal_merge j a b).right) × (next_after r.exits.normal out.normal r.next ≡ (normal_merge j a b).next)
+  n_swapped =
+      let s = merge_swap (out.normal) (r.exits.normal) r.next in
+      (s.0 ∙ ap (λ (m : Merge). m.right) n_is, s.1 ∙ ap (λ (m : Merge). m.next) n_is)
 
-    left_side_is : (p : Place) → side v out.normal r.normal out.raised r.raised r.next p ≡ left_side j a b p.row p.term
-    left_side_is p = λ t. side_piece (n_is t).left (x_is t).left p.row p.term
+  x_swapped :
+      (renamings r.exits.raised out.raised (next_after r.exits.normal out.normal r.next) ≡ (raised_merge j a b).right)
+      × (next_after r.exits.raised out.raised (next_after r.exits.normal out.normal r.next) ≡ (raised_merge j a b).next)
+  x_swapped =
+      let k = next_after r.exits.normal out.normal r.next in
+      let s = merge_swap (out.raised) (r.exits.raised) k in
+      let same : merge out.raised r.exits.raised k ≡ raised_merge j a b =
+      ap (λ n. merge out.raised r.exits.raised n) (n_swapped.1 ∙ ap (λ (m : Merge). m.next) (sym n_is)) ∙ x_is in
+      (s.0 ∙ ap (λ (m : Merge). m.right) same, s.1 ∙ ap (λ (m : Merge). m.next) same)
 
-    right_side_is : (p : Place) → side v r.normal out.normal r.raised out.raised r.next p ≡ right_side j a b p.row p.term
-    right_side_is p = λ t. side_piece (n_swapped.0 t) (x_swapped.0 t) p.row p.term
+  left_side_is : (p : Place) → side out r.exits r.next p ≡ left_side j a b p.row p.term
+  left_side_is p = λ t. side_piece (n_is t).left (x_is t).left p.row p.term
 
-    pub left_names : Fits (joined_sizes j (sizes a) (sizes b)) → next_after v out.raised r.raised (next_after v out.normal r.normal r.next) ≤ 2 ^ 16
-    left_names f = omega (arith, f.few_names, ap (λ (m : Merge). m.next) x_is)
+  right_side_is : (p : Place) → side r.exits out r.next p ≡ right_side j a b p.row p.term
+  right_side_is p = λ t. side_piece (n_swapped.0 t) (x_swapped.0 t) p.row p.term
 
-    pub right_names : Fits (joined_sizes j (sizes a) (sizes b)) → next_after v r.raised out.raised (next_after v r.normal out.normal r.next) ≤ 2 ^ 16
-    right_names f = omega (arith, f.few_names, x_swapped.1)
+  pub left_names : Fits (joined_sizes j (sizes a) (sizes b)) → next_after out.raised r.exits.raised (next_after out.normal r.exits.normal r.next) ≤ 2 ^ 16
+  left_names f = omega (arith, f.few_names, ap (λ (m : Merge). m.next) x_is)
 
-    -- written one behind another
-    module _ (s : Place) (E : List PassiveRow) (T : List PassiveTermRow) where
-      module _ (E1 : List PassiveRow) (T1 : List PassiveTermRow) (p1 : Place) (w1 : Wrote (first_piece j a b s) s E E1 T T1 p1)
-          (in_rows : s.row ≤ length E) (in_terms : s.term ≤ length T)
-        where
-          e1 : p1.row ≡ (i1 j a b s)
-          e1 = w1.row_end ∙ ap (λ n. s.row + n) (length_layout a.code s.row s.term)
+  pub right_names : Fits (joined_sizes j (sizes a) (sizes b)) → next_after r.exits.raised out.raised (next_after r.exits.normal out.normal r.next) ≤ 2 ^ 16
+  right_names f = omega (arith, f.few_names, x_swapped.1)
 
-          f1 : p1.term ≡ (j1 j a b s)
-          f1 = w1.term_end ∙ ap (λ n. s.term + n) (length_term_rows a.code)
+  -- written one behind another
+  module _ (s : Place) (E : List PassiveRow) (T : List PassiveTermRow) where
+    module _ (E1 : List PassiveRow) (T1 : List PassiveTermRow) (p1 : Place) (w1 : Wrote (first_piece j a b s) s E E1 T T1 p1)
+        (in_rows : s.row ≤ length E) (in_terms : s.term ≤ length T)
+      where
+        e1 : p1.row ≡ (i1 j a b s)
+        e1 = w1.row_end ∙ ap (λ n. s.row + n) (length_layout a.code s.row s.term)
 
-          pub left_behind : 0 < p1.row
-          left_behind = omega (arith, e1, some_rows a.code)
+        f1 : p1.term ≡ (j1 j a b s)
+        f1 = w1.term_end ∙ ap (λ n. s.term + n) (length_term_rows a.code)
 
-          left_there : side v out.normal r.normal out.raised r.raised r.next p1 ≡ left_side j a b (i1 j a b s) (j1 j a b s)
-          left_there = left_side_is p1 ∙ (λ t. left_side j a b (e1 t) (f1 t))
+        pub left_behind : 0 < p1.row
+        left_behind = omega (arith, e1, some_rows a.code)
 
-          pub left_room : (WholeRoom j a b s E T) → Room (side v out.normal r.normal out.raised r.raised r.next p1) p1 E1 T1
-          left_room room = room_as (sym left_there) (room_second (first_piece j a b s) (left_side j a b (i1 j a b s) (j1 j a b s)) w1 ((room_two j a b s E T) room))
+        left_there : side out r.exits r.next p1 ≡ left_side j a b (i1 j a b s) (j1 j a b s)
+        left_there = left_side_is p1 ∙ (λ t. left_side j a b (e1 t) (f1 t))
 
-          module _ (E2 : List PassiveRow) (T2 : List PassiveTermRow) (p2 : Place)
-              (u2 : Wrote (side v out.normal r.normal out.raised r.raised r.next p1) p1 E1 E2 T1 T2 p2)
-            where
-              w2 : Wrote (two j a b s) s E E2 T T2 p2
-              w2 = wrote_then w1 (wrote_as left_there u2) in_rows in_terms
+        pub left_room : (WholeRoom j a b s E T) → Room (side out r.exits r.next p1) p1 E1 T1
+        left_room room = room_as (sym left_there) (room_second (first_piece j a b s) (left_side j a b (i1 j a b s) (j1 j a b s)) w1 ((room_two j a b s E T) room))
 
-              e2 : p2.row ≡ (i2 j a b s)
-              e2 = (wrote_as left_there u2).row_end ∙ ap (λ n. n + length (left_side j a b (i1 j a b s) (j1 j a b s)).rows) e1
+        module _ (E2 : List PassiveRow) (T2 : List PassiveTermRow) (p2 : Place)
+            (u2 : Wrote (side out r.exits r.next p1) p1 E1 E2 T1 T2 p2)
+          where
+            w2 : Wrote (two j a b s) s E E2 T T2 p2
+            w2 = wrote_then w1 (wrote_as left_there u2) in_rows in_terms
 
-              f2 : p2.term ≡ (j2 j a b s)
-              f2 = (wrote_as left_there u2).term_end ∙ ap (λ n. n + length (left_side j a b (i1 j a b s) (j1 j a b s)).terms) f1
+            e2 : p2.row ≡ (i2 j a b s)
+            e2 = (wrote_as left_there u2).row_end ∙ ap (λ n. n + length (left_side j a b (i1 j a b s) (j1 j a b s)).rows) e1
 
-              pub middle_behind : 0 < p2.row
-              middle_behind = omega (arith, e2, some_rows a.code)
+            f2 : p2.term ≡ (j2 j a b s)
+            f2 = (wrote_as left_there u2).term_end ∙ ap (λ n. n + length (left_side j a b (i1 j a b s) (j1 j a b s)).terms) f1
 
-              second_there : form_piece b.code p2.row p2.term ≡ (second_piece j a b s)
-              second_there = λ t. form_piece b.code (e2 t) (f2 t)
+            pub middle_behind : 0 < p2.row
+            middle_behind = omega (arith, e2, some_rows a.code)
 
-              pub second_room : (WholeRoom j a b s E T) → Room (form_piece b.code p2.row p2.term) p2 E2 T2
-              second_room room = room_as (sym second_there) (room_second (two j a b s) (second_piece j a b s) w2 ((room_three j a b s E T) room))
+            second_there : form_piece b.code p2.row p2.term ≡ (second_piece j a b s)
+            second_there = λ t. form_piece b.code (e2 t) (f2 t)
 
-              module _ (E3 : List PassiveRow) (T3 : List PassiveTermRow) (p3 : Place) (u3 : Wrote (form_piece b.code p2.row p2.term) p2 E2 E3 T2 T3 p3) where
-                w3 : Wrote (three j a b s) s E E3 T T3 p3
-                w3 = wrote_then w2 (wrote_as second_there u3) in_rows in_terms
+            pub second_room : (WholeRoom j a b s E T) → Room (form_piece b.code p2.row p2.term) p2 E2 T2
+            second_room room = room_as (sym second_there) (room_second (two j a b s) (second_piece j a b s) w2 ((room_three j a b s E T) room))
 
-                e3 : p3.row ≡ (i3 j a b s)
-                e3 = u3.row_end ∙ (λ t. e2 t + length_layout b.code p2.row p2.term t)
+            module _ (E3 : List PassiveRow) (T3 : List PassiveTermRow) (p3 : Place) (u3 : Wrote (form_piece b.code p2.row p2.term) p2 E2 E3 T2 T3 p3) where
+              w3 : Wrote (three j a b s) s E E3 T T3 p3
+              w3 = wrote_then w2 (wrote_as second_there u3) in_rows in_terms
 
-                f3 : p3.term ≡ (j3 j a b s)
-                f3 = u3.term_end ∙ (λ t. f2 t + length_term_rows b.code t)
+              e3 : p3.row ≡ (i3 j a b s)
+              e3 = u3.row_end ∙ (λ t. e2 t + length_layout b.code p2.row p2.term t)
 
-                pub right_behind : 0 < p3.row
-                right_behind = omega (arith, e3, some_rows b.code)
+              f3 : p3.term ≡ (j3 j a b s)
+              f3 = u3.term_end ∙ (λ t. f2 t + length_term_rows b.code t)
 
-                right_there : side v r.normal out.normal r.raised out.raised r.next p3 ≡ right_side j a b (i3 j a b s) (j3 j a b s)
-                right_there = right_side_is p3 ∙ (λ t. right_side j a b (e3 t) (f3 t))
+              pub right_behind : 0 < p3.row
+              right_behind = omega (arith, e3, some_rows b.code)
 
-                pub right_room : (WholeRoom j a b s E T) → Room (side v r.normal out.normal r.raised out.raised r.next p3) p3 E3 T3
-                right_room room = room_as (sym right_there) (room_second (three j a b s) (right_side j a b (i3 j a b s) (j3 j a b s)) w3 ((room_four j a b s E T) room))
+              right_there : side r.exits out r.next p3 ≡ right_side j a b (i3 j a b s) (j3 j a b s)
+              right_there = right_side_is p3 ∙ (λ t. right_side j a b (e3 t) (f3 t))
 
-                module _ (E4 : List PassiveRow) (T4 : List PassiveTermRow) (p4 : Place)
-                    (u4 : Wrote (side v r.normal out.normal r.raised out.raised r.next p3) p3 E3 E4 T3 T4 p4)
-                  where
-                    w4 : Wrote (four j a b s) s E E4 T T4 p4
-                    w4 = wrote_then w3 (wrote_as right_there u4) in_rows in_terms
+              pub right_room : (WholeRoom j a b s E T) → Room (side r.exits out r.next p3) p3 E3 T3
+              right_room room = room_as (sym right_there) (room_second (three j a b s) (right_side j a b (i3 j a b s) (j3 j a b s)) w3 ((room_four j a b s E T) room))
 
-                    pub last_room : (WholeRoom j a b s E T) → Room (last_row j a b s) p4 E4 T4
-                    last_room room = room_second (four j a b s) (last_row j a b s) w4 (room_as (whole_is j a b s) room)
+              module _ (E4 : List PassiveRow) (T4 : List PassiveTermRow) (p4 : Place)
+                  (u4 : Wrote (side r.exits out r.next p3) p3 E3 E4 T3 T4 p4)
+                where
+                  w4 : Wrote (four j a b s) s E E4 T T4 p4
+                  w4 = wrote_then w3 (wrote_as right_there u4) in_rows in_terms
 
-                    pub whole_written :
-                        (E5 : List PassiveRow) (p5 : Place) (row : PassiveRow) → row ≡ joint_row (joint_tag j) (p2.row - 1)
-                        → Wrote (one_row row) p4 E4 E5 T4 T4 p5 → Wrote (form_piece (joined j a b).code s.row s.term) s E E5 T T4 p5
-                    whole_written E5 p5 row is u5 =
-                        wrote_as (sym (whole_is j a b s))
-                        (wrote_then w4 (wrote_as (ap one_row (is ∙ ap (λ n. joint_row (joint_tag j) (n - 1)) e2)) u5) in_rows in_terms)
+                  pub last_room : (WholeRoom j a b s E T) → Room (last_row j a b s) p4 E4 T4
+                  last_room room = room_second (four j a b s) (last_row j a b s) w4 (room_as (whole_is j a b s) room)
+
+                  pub whole_written :
+                      (E5 : List PassiveRow) (p5 : Place) (row : PassiveRow) → row ≡ joint_row (joint_tag j) (p2.row - 1)
+                      → Wrote (one_row row) p4 E4 E5 T4 T4 p5 → Wrote (form_piece (joined j a b).code s.row s.term) s E E5 T T4 p5
+                  whole_written E5 p5 row is u5 =
+                      wrote_as (sym (whole_is j a b s))
+                      (wrote_then w4 (wrote_as (ap one_row (is ∙ ap (λ n. joint_row (joint_tag j) (n - 1)) e2)) u5) in_rows in_terms)

@@ -1,5 +1,5 @@
 -- The loop that writes the lets of a renaming, turn by turn.
-use Rattle.std.proofs.Common.{◌≡◌, ℕ, ◌+◌, ◌-◌, ◌<◌, ◌≤◌, Bool, true, false, cond, eqb, List, [], ◌∷◌, length, sym, refl, ap, ◌∙◌, subst₂, append-nil, arith}
+use Rattle.std.proofs.Common.{◌≡◌, ℕ, ◌+◌, ◌-◌, ◌<◌, ◌≤◌, min, Bool, true, false, cond, eqb, List, [], ◌∷◌, length, sym, refl, ap, ◌∙◌, subst₂, append-nil, arith}
 use Rattle.std.proofs.lemmas.Bool.{eq-eqb, ne_eqb, eqb-true, eqb-false}
 use Rattle.kinds.specs.declared.numbered.Name.{Name}
 use Rattle.passive.specs.Passive.{name, Merged, Renamed}
@@ -54,16 +54,16 @@ one_let s p q r rs h er et = go (eqb p.row s.row) refl er et
         ap (λ x. (let_piece r p.term then one_row (joint_row 6 (p.row - 1))) then x)
         (sym (rest_more (p.row + 2) (p.term + 1) ei ej (λ f. apart (omega arith))))
 
-module _ (v : ℕ) (ks bs : List Name) (next : ℕ) (s : Place) (E : List PassiveRow) (T : List PassiveTermRow) where
+module _ (ks bs : List Name) (next : ℕ) (s : Place) (E : List PassiveRow) (T : List PassiveTermRow) where
   abbrev whole : Piece
-  whole = lets_piece (all v ks bs next).left s.row s.term
+  whole = lets_piece (all ks bs next).left s.row s.term
 
   -- the lets of the variables below i are written, up to p
   pub record Sofar (k i : ℕ) (p : Place) (out : List PassiveRow) (outt : List PassiveTermRow) : Type 0 where
     pub done : Piece
     pub wrote : Wrote done s E out T outt p
-    pub split : done then left_to_write s p (rest v ks bs i k).left ≡ whole
-    pub names : (rest v ks bs i k).next ≡ (all v ks bs next).next
+    pub split : done then left_to_write s p (rest ks bs i k).left ≡ whole
+    pub names : (rest ks bs i k).next ≡ (all ks bs next).next
 
   pub moved :
       (k k' i : ℕ) (p p' : Place) (out out' : List PassiveRow) (outt outt' : List PassiveTermRow) → k' ≡ k → p' ≡ p → out' ≡ out → outt' ≡ outt
@@ -75,14 +75,14 @@ module _ (v : ℕ) (ks bs : List Name) (next : ℕ) (s : Place) (E : List Passiv
   begun = record {
     done = nothing;
     wrote = wrote_none s E T;
-    split = ap (λ b. cond b whole (more_piece (all v ks bs next).left s)) (eq-eqb s.row s.row refl);
+    split = ap (λ b. cond b whole (more_piece (all ks bs next).left s)) (eq-eqb s.row s.row refl);
     names = refl;
   }
 
-  module _ (k i : ℕ) (p : Place) (out : List PassiveRow) (outt : List PassiveTermRow) (h : i < v) (so : Sofar k i p out outt) where
+  module _ (k i : ℕ) (p : Place) (out : List PassiveRow) (outt : List PassiveTermRow) (hk : i < length ks) (hb : i < length bs) (so : Sofar k i p out outt) where
     pub same : (at ks i).0 ≡ (at bs i).0 → Sofar k (i + 1) p out outt
     same e =
-        let now = rest_same v ks bs i k h e in
+        let now = rest_same ks bs i k hk hb e in
         record {
           done = so.done;
           wrote = so.wrote;
@@ -98,17 +98,17 @@ module _ (v : ℕ) (ks bs : List Name) (next : ℕ) (s : Place) (E : List Passiv
       this = record { new = name k; old = at ks i }
 
       abbrev later : List Renamed
-      later = (rest v ks bs (i + 1) (k + 1)).left
+      later = (rest ks bs (i + 1) (k + 1)).left
 
-      pub names_room : k < (all v ks bs next).next
-      names_room = omega (arith, rest_up v ks bs (i + 1) (k + 1), ap (λ (m : Merged). m.next) (rest_apart v ks bs i k h e), so.names)
+      pub names_room : k < (all ks bs next).next
+      names_room = omega (arith, rest_up ks bs (i + 1) (k + 1), ap (λ (m : Merged). m.next) (rest_apart ks bs i k hk hb e), so.names)
 
       -- q is the place behind this let
       module _ (q : Place) (er : q.row ≡ p.row + length (next_let s this p).rows) (et : q.term ≡ p.term + length (next_let s this p).terms) where
         cut : so.done then (next_let s this p then left_to_write s q later) ≡ whole
         cut =
             ap (λ x. so.done then x) (sym (one_let s p q this later behind er et))
-            ∙ (ap (λ (m : Merged). so.done then left_to_write s p m.left) (sym (rest_apart v ks bs i k h e)) ∙ so.split)
+            ∙ (ap (λ (m : Merged). so.done then left_to_write s p m.left) (sym (rest_apart ks bs i k hk hb e)) ∙ so.split)
 
       pub let_room : Room whole s E T → Room (next_let s this p) p out outt
       let_room room =
@@ -123,17 +123,17 @@ module _ (v : ℕ) (ks bs : List Name) (next : ℕ) (s : Place) (E : List Passiv
         done = so.done then next_let s this p;
         wrote = wrote_then so.wrote w hr ht;
         split = then_assoc so.done (next_let s this p) (left_to_write s q later) ∙ cut q w.row_end w.term_end;
-        names = ap (λ (m : Merged). m.next) (sym (rest_apart v ks bs i k h e)) ∙ so.names;
+        names = ap (λ (m : Merged). m.next) (sym (rest_apart ks bs i k hk hb e)) ∙ so.names;
       }
 
-  pub written : (k i : ℕ) (p : Place) (out : List PassiveRow) (outt : List PassiveTermRow) → v ≤ i → Sofar k i p out outt → Wrote whole s E out T outt p
+  pub written : (k i : ℕ) (p : Place) (out : List PassiveRow) (outt : List PassiveTermRow) → i ≡ min (length ks) (length bs) → Sofar k i p out outt → Wrote whole s E out T outt p
   written k i p out outt h so = wrote_as (sym nothing_more ∙ (sym all_done ∙ so.split)) so.wrote
     where
       nothing_more : so.done then nothing ≡ so.done
       nothing_more = λ t. record { rows = append-nil so.done.rows t; terms = append-nil so.done.terms t }
 
-      all_done : so.done then left_to_write s p (rest v ks bs i k).left ≡ so.done then nothing
-      all_done = ap (λ x. so.done then x) (ap (λ (m : Merged). left_to_write s p m.left) (rest_none v ks bs i k h) ∙ none_left s p)
+      all_done : so.done then left_to_write s p (rest ks bs i k).left ≡ so.done then nothing
+      all_done = ap (λ x. so.done then x) (ap (λ (m : Merged). left_to_write s p m.left) (rest_none ks bs i k h) ∙ none_left s p)
 
-  pub named : (k i : ℕ) (p : Place) (out : List PassiveRow) (outt : List PassiveTermRow) → v ≤ i → Sofar k i p out outt → k ≡ (all v ks bs next).next
-  named k i p out outt h so = ap (λ (m : Merged). m.next) (sym (rest_none v ks bs i k h)) ∙ so.names
+  pub named : (k i : ℕ) (p : Place) (out : List PassiveRow) (outt : List PassiveTermRow) → i ≡ min (length ks) (length bs) → Sofar k i p out outt → k ≡ (all ks bs next).next
+  named k i p out outt h so = ap (λ (m : Merged). m.next) (sym (rest_none ks bs i k h)) ∙ so.names

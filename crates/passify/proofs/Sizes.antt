@@ -9,7 +9,8 @@ use Rattle.passive.specs.Passive.{name, Passive, p_join, Names, Renamed, Merged,
 use Rattle.passive.specs.Outcomes.{nodes}
 use Rattle.passive.specs.Layout.{rows, terms}
 use Rattle.passive.proofs.Endings.{normal_merge, raised_merge}
-use Rattle.passify.specs.Measuring.{Sizes, sizes, guard_rows, guard_nodes, joined_sizes, measured, Fits}
+use Rattle.passify.specs.declared.measuring.Measured.{Measured}
+use Rattle.passify.specs.Measuring.{exits, sizes, guard_rows, guard_nodes, joined_sizes, measured, Fits}
 
 -- a merge, and the same two maps merged the other way round
 
@@ -141,24 +142,24 @@ sizes_joined j a b =
     omega (arith, l.terms_more, r.terms_more, both, sn, sx) in
     let en : (joined_sizes j (sizes a) (sizes b)).nodes ≡ nodes (joined j a b).code =
     omega (arith, l.nodes_more, r.nodes_more, sn, ap guard_nodes sx) in
-    λ i. record { normal = n.names; raised = x.names; next = x.next; rows = er i; terms = et i; nodes = en i }
+    λ i. record { exits = exits n.names x.names; next = x.next; rows = er i; terms = et i; nodes = en i }
 
 pub measured_is : (c : Command) (m : Names) (k : ℕ) → measured c m k ≡ sizes (passify c m k)
 measured_is c None k = refl
 measured_is (single c) (Some m) k = refl
 measured_is (join j c d) (Some m) k =
     let a = passify c (Some m) k in
-    let after : Sizes → Sizes = λ s. joined_sizes j s (measured d (entry j m s.normal s.raised) s.next) in
+    let after : Measured → Measured = λ s. joined_sizes j s (measured d (entry j m s.exits.normal s.exits.raised) s.next) in
     ap after (measured_is c (Some m) k)
     ∙ ap (joined_sizes j (sizes a)) (measured_is d (entry j m a.normal a.raised) a.next)
     ∙ sizes_joined j a (passify d (entry j m a.normal a.raised) a.next)
 
 -- names only go up
 
-pub joined_up : (j : Joint) (a b : Sizes) → b.next ≤ (joined_sizes j a b).next
+pub joined_up : (j : Joint) (a b : Measured) → b.next ≤ (joined_sizes j a b).next
 joined_up j a b =
-    let n = merge (leaves_normal j a.normal) b.normal b.next in
-    omega (arith, merge_up (leaves_normal j a.normal) b.normal b.next, merge_up (leaves_raised j a.raised) b.raised n.next)
+    let n = merge (leaves_normal j a.exits.normal) b.exits.normal b.next in
+    omega (arith, merge_up (leaves_normal j a.exits.normal) b.exits.normal b.next, merge_up (leaves_raised j a.exits.raised) b.exits.raised n.next)
 
 single_up : (c : Single) (m : List Name) (k : ℕ) → k ≤ (passify_single c m k).next
 single_up (assert t) m k = omega arith
@@ -172,13 +173,13 @@ measured_up c None k = omega arith
 measured_up (single c) (Some m) k = single_up c m k
 measured_up (join j c d) (Some m) k =
     let a = measured c (Some m) k in
-    let e = entry j m a.normal a.raised in
+    let e = entry j m a.exits.normal a.exits.raised in
     omega (arith, measured_up c (Some m) k, measured_up d e a.next, joined_up j a (measured d e a.next))
 
 pub passify_up : (c : Command) (m : Names) (k : ℕ) → k ≤ (passify c m k).next
-passify_up c m k = omega (arith, measured_up c m k, ap (λ (s : Sizes). s.next) (measured_is c m k))
+passify_up c m k = omega (arith, measured_up c m k, ap (λ (s : Measured). s.next) (measured_is c m k))
 
-pub fits_parts : (j : Joint) (a b : Sizes) → a.next ≤ b.next → Fits (joined_sizes j a b) → Fits a × Fits b
+pub fits_parts : (j : Joint) (a b : Measured) → a.next ≤ b.next → Fits (joined_sizes j a b) → Fits a × Fits b
 fits_parts j a b h f = (
   record {
     few_names = omega (arith, joined_up j a b, f.few_names);

@@ -1,4 +1,6 @@
-pub mod Names
+pub mod Padding
+pub mod PaddingLaws
+pub mod Merging
 pub mod Measuring
 pub mod Pieces
 pub mod Writing

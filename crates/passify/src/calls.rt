@@ -5,7 +5,7 @@ ghost use Rattle.passive.specs.Stated.{JointsAsStated};
 ghost use Rattle.passify.specs.Calls.{measure_answer, passify_answer, rows_after, terms_after, AgreesWithRuns};
 ghost use Rattle.passify.specs.Checked.{Checked, FormMeasured};
 
-use crate::maps::first_names;
+use crate::maps::NameMap;
 use crate::measuring::{Measured, measure_row};
 use crate::passing::passify_row;
 use crate::writing::Place;
@@ -15,7 +15,7 @@ use passive::rows::{PassiveRow, PassiveTermRow};
 use routine::checks::check;
 use routine::rows::{CommandRow, TermRow};
 
-const MOST_NAMES: u32 = 4096;
+pub const MOST_NAMES: u32 = 4096;
 
 // What a routine's passive form and its condition take.
 #[derive(Clone, Copy, Debug, PartialEq, Eq)]
@@ -42,8 +42,7 @@ fn measure_checked(v: u32, commands: &[CommandRow]) -> Measured
     measure_row(
         commands,
         commands.len() as u32 - 1,
-        v,
-        Some(first_names(v)),
+        Some(NameMap::first(v)),
         v,
     )
 }
@@ -66,8 +65,8 @@ pub fn measure<K: Kind>(
     })
 }
 
-fn tables_suffice(form: Measured, rows: usize, terms: usize) -> bool
-    ensures { result ≡ (nat_le form.rows rows && nat_le form.terms terms) }
+fn tables_suffice(form: &Measured, rows: usize, terms: usize) -> bool
+    ensures { result ≡ (nat_le form.now.rows rows && nat_le form.now.terms terms) }
 {
     form.rows as usize <= rows && form.terms as usize <= terms
 }
@@ -91,7 +90,7 @@ pub fn passify<K: Kind>(
     if form.next > MOST_NAMES {
         return Err(Refusal::Names);
     }
-    if !tables_suffice(form, rows.len(), out.len()) {
+    if !tables_suffice(&form, rows.len(), out.len()) {
         return Err(Refusal::WorkTable);
     }
     let front = Place { row: 0, term: 0 };
@@ -99,8 +98,7 @@ pub fn passify<K: Kind>(
         commands,
         terms,
         commands.len() as u32 - 1,
-        v,
-        Some(first_names(v)),
+        Some(NameMap::first(v)),
         v,
         rows,
         out,

@@ -1,10 +1,10 @@
 // Writing the passive form of a command.
-ghost use Rattle.std.specs.Prelude.{◌≡◌, ℕ, ◌+◌, ◌^◌, ◌<◌, ◌≤◌, List, [], ◌∷◌, map, length};
-ghost use Rattle.routine.specs.Rows.{item};
+ghost use Rattle.std.specs.Prelude.{◌≡◌, ℕ, ◌+◌, ◌^◌, ◌<◌, ◌≤◌, List, [], ◌∷◌, map, length, Ok};
+ghost use Rattle.routine.specs.Rows.{tag_of, item};
+ghost use Rattle.routine.specs.declared.rows.Tag.TheVariants.{Assign};
 ghost use Rattle.passive.specs.Passive.{renamed, rename, passify_single};
 ghost use Rattle.passive.specs.Rows.{term_row as row_of_item};
 ghost use Rattle.passive.specs.Layout.{layout, put};
-ghost use Rattle.passify.specs.Names.{map_of};
 ghost use Rattle.passify.specs.Measuring.{AtSingle, SomeSingle};
 ghost use Rattle.passify.specs.Pieces.{Wrote};
 ghost use Rattle.passify.specs.Writing.{passive_terms, TermRoom, TermWritten, single_piece, SingleWritable, Writable, Written};
@@ -13,42 +13,29 @@ use crate::maps::NameMap;
 use crate::measuring::{
     Measured, entry, left_exits, measure_joined, measure_row, measure_single, measure_stop,
 };
-use crate::writing::{Place, joint_row, term_row, write_row, write_side};
+use crate::writing::{Place, write_row, write_side};
 use kinds::numbered::Name;
-use passive::rows::{PassiveRow, PassiveTermRow};
-use routine::rows::{CommandRow, TermRow};
+use passive::rows::{PassiveRow, PassiveTag, PassiveTermRow};
+use routine::rows::{CommandRow, Item, Tag, TermRow};
 
 // A term row with the name of its variable.
-fn rename_row(row: TermRow, v: u32, m: &NameMap) -> PassiveTermRow
-    requires { v ≤ 32 }
-    ensures { result ≡ row_of_item (renamed (map_of v m.now) (item row)) }
+fn rename_row(row: TermRow, m: &NameMap) -> PassiveTermRow
+    ensures { result ≡ row_of_item (renamed m.now (item row)) }
 {
-    match row.tag {
-        1 => PassiveTermRow {
-            tag: 1,
-            number: row.number,
-        },
-        2 => PassiveTermRow {
-            tag: 2,
-            number: m.name_of(v, row.number).0,
-        },
-        _ => PassiveTermRow {
-            tag: 3,
-            number: row.number,
-        },
+    match Item::from(row) {
+        Item::Literal(n) => Item::Literal(n).into(),
+        Item::Reference(x) => Item::Reference(m.name_of(x)).into(),
+        Item::Operation(k) => Item::Operation(k).into(),
     }
 }
 
 // Renaming: the rows of a term, each variable by its name, from `at` on.
-fn rename_term(rows: &[TermRow], v: u32, m: &NameMap, out: &mut [PassiveTermRow], at: u32)
-    requires few { v ≤ 32 }
-    requires room { at + length rows.now ≤ length out.old }
-    ensures { out.new ≡ put out.old at (map row_of_item (rename (map_of v m.now) (map item rows.now))) }
+fn rename_term(rows: &[TermRow], m: &NameMap, out: &mut [PassiveTermRow], at: u32)
+    requires { at + length rows.now ≤ length out.old }
+    ensures { out.new ≡ put out.old at (map row_of_item (rename m.now (map item rows.now))) }
 {
-    let mut next = at as usize;
-    for row in rows {
-        out[next] = rename_row(*row, v, m);
-        next += 1;
+    for (i, row) in rows.iter().enumerate() {
+        out[at as usize + i] = rename_row(*row, m);
     }
 }
 
@@ -56,35 +43,35 @@ fn rename_term(rows: &[TermRow], v: u32, m: &NameMap, out: &mut [PassiveTermRow]
 fn write_term(
     row: CommandRow,
     terms: &[TermRow],
-    v: u32,
     m: &NameMap,
     out: &mut [PassiveTermRow],
     at: u32,
 ) -> u32
-    requires few { v ≤ 32 }
-    requires room { SomeSingle v terms.now row (λ c. TermRoom (length (passive_terms c (map_of v m.now))) at (length out.old)) }
-    ensures { AtSingle v terms.now row (λ c. TermWritten (passive_terms c (map_of v m.now)) at out.old out.new result) }
+    requires { SomeSingle terms.now row (λ c. TermRoom (length (passive_terms c m.now)) at (length out.old)) }
+    ensures { AtSingle terms.now row (λ c. TermWritten (passive_terms c m.now) at out.old out.new result) }
 {
-    if row.tag > 3 {
+    if !row.has_term() {
         return at;
     }
     let first = row.from as usize;
     let end = first + row.count as usize;
-    rename_term(&terms[first..end], v, m, out, at);
+    rename_term(&terms[first..end], m, out, at);
     at + row.count
 }
 
 // The row of a single command, whose term stands from `from` on.
 fn single_row(row: CommandRow, next: u32, from: u32) -> PassiveRow
-    requires { row.tag ≡ 3 → next < 2 ^ 16 }
-    ensures { (v : ℕ) (ts : List TermRow) (m : List Name) → AtSingle v ts row (λ c. result ∷ [] ≡ layout (passify_single c m next).code 0 from) }
+    requires { tag_of row.tag ≡ Ok Assign → next < 2 ^ 16 }
+    ensures { (ts : List TermRow) (m : List Name) → AtSingle ts row (λ c. result ∷ [] ≡ layout (passify_single c m next).code 0 from) }
 {
-    if row.tag == 3 {
-        term_row(9, Name(next as u16), from, row.count)
-    } else if row.tag < 3 {
-        term_row(row.tag, Name(0), from, row.count)
-    } else {
-        joint_row(row.tag, 0)
+    match Tag::try_from(row.tag) {
+        Ok(Tag::Assert) => PassiveRow::with_term(PassiveTag::Assert, Name(0), from, row.count),
+        Ok(Tag::Assume) => PassiveRow::with_term(PassiveTag::Assume, Name(0), from, row.count),
+        Ok(Tag::Assign) => {
+            PassiveRow::with_term(PassiveTag::Let, Name(next as u16), from, row.count)
+        }
+        Ok(Tag::Skip) => PassiveRow::plain(PassiveTag::Skip),
+        _ => PassiveRow::plain(PassiveTag::Raise),
     }
 }
 
@@ -92,18 +79,16 @@ fn single_row(row: CommandRow, next: u32, from: u32) -> PassiveRow
 fn passify_single(
     row: CommandRow,
     terms: &[TermRow],
-    v: u32,
     m: &NameMap,
     next: u32,
     rows: &mut [PassiveRow],
     out: &mut [PassiveTermRow],
     at: Place,
 ) -> Place
-    requires few { v ≤ 32 }
-    requires writable { SomeSingle v terms.now row (SingleWritable v m.now next at rows.old out.old) }
-    ensures { AtSingle v terms.now row (λ c. Wrote (single_piece v m.now next c at) at rows.old rows.new out.old out.new result) }
+    requires { SomeSingle terms.now row (SingleWritable m.now next at rows.old out.old) }
+    ensures { AtSingle terms.now row (λ c. Wrote (single_piece m.now next c at) at rows.old rows.new out.old out.new result) }
 {
-    let term = write_term(row, terms, v, m, out, at.term);
+    let term = write_term(row, terms, m, out, at.term);
     rows[at.row as usize] = single_row(row, next, at.term);
     Place {
         row: at.row + 1,
@@ -124,69 +109,51 @@ pub fn passify_row(
     commands: &[CommandRow],
     terms: &[TermRow],
     i: u32,
-    v: u32,
     names: Option<NameMap>,
     next: u32,
     rows: &mut [PassiveRow],
     out: &mut [PassiveTermRow],
     at: Place,
 ) -> Passed
-    requires few { v ≤ 32 }
-    requires writable { Writable v commands.now terms.now i names next at rows.old out.old }
-    ensures { Written v commands.now terms.now i names next at rows.old rows.new out.old out.new result }
+    requires { Writable commands.now terms.now i names next at rows.old out.old }
+    ensures { Written commands.now terms.now i names next at rows.old rows.new out.old out.new result }
 {
     let Some(m) = names else {
         return Passed {
             measured: measure_stop(next),
-            end: write_row(rows, at, joint_row(10, 0)),
+            end: write_row(rows, at, PassiveRow::plain(PassiveTag::Stop)),
         };
     };
     let row = commands[i as usize];
-    if row.tag < 6 {
-        return Passed {
-            measured: measure_single(row, v, m, next),
-            end: passify_single(row, terms, v, &m, next, rows, out, at),
-        };
-    }
-    let left = passify_row(commands, terms, row.left, v, names, next, rows, out, at);
-    let start = entry(row.tag, m, left.measured);
-    let right = measure_row(commands, i - 1, v, start, left.measured.next);
-    let exits = left_exits(row.tag, left.measured);
-    let middle = write_side(
-        v,
-        exits.normal,
-        right.normal,
-        exits.raised,
-        right.raised,
-        right.next,
-        rows,
-        out,
-        left.end,
+    let Some(joint) = row.joint() else {
+        let end = passify_single(row, terms, &m, next, rows, out, at);
+        let measured = measure_single(row, m, next);
+        return Passed { measured, end };
+    };
+    let left = passify_row(commands, terms, row.left, Some(m), next, rows, out, at);
+    let measured = left.measured;
+    let right = measure_row(
+        commands,
+        i - 1,
+        entry(joint, m, &measured.exits),
+        measured.next,
     );
+    let exits = left_exits(joint, &measured.exits);
+    let middle = write_side(&exits, &right.exits, right.next, rows, out, left.end);
     let again = passify_row(
         commands,
         terms,
         i - 1,
-        v,
-        start,
-        left.measured.next,
+        entry(joint, m, &measured.exits),
+        measured.next,
         rows,
         out,
         middle,
     );
-    let behind = write_side(
-        v,
-        right.normal,
-        exits.normal,
-        right.raised,
-        exits.raised,
-        right.next,
-        rows,
-        out,
-        again.end,
-    );
+    let behind = write_side(&right.exits, &exits, right.next, rows, out, again.end);
+    let joined = PassiveRow::joining(joint, middle.row - 1);
     Passed {
-        measured: measure_joined(row.tag, v, left.measured, right),
-        end: write_row(rows, behind, joint_row(row.tag, middle.row - 1)),
+        measured: measure_joined(joint, &measured, &right),
+        end: write_row(rows, behind, joined),
     }
 }

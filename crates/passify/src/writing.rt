@@ -1,45 +1,19 @@
 // Writing into the two tables of a passive form: rows, and the renamings that stand behind a part of a joined command.
-ghost use Rattle.std.specs.Prelude.{◌≡◌, ℕ, ◌+◌, ◌^◌, ◌<◌, ◌≤◌, List, length, Some};
-ghost use Rattle.passive.specs.Passive.{name};
-ghost use Rattle.passive.specs.Layout.{passive_row, joint_row as row_of_joint};
+// The tables stay two parameters: a struct that held both would owe, in each method, a clause that each is still the caller's.
+ghost use Rattle.std.specs.Prelude.{◌≡◌, ◌+◌, ◌^◌, ◌<◌, ◌≤◌, List, length, Some};
 ghost use Rattle.passify.specs.Pieces.{one_row, let_piece, next_let, lets_piece, tail_piece, guard_piece, Wrote, Room};
-ghost use Rattle.passify.specs.Writing.{renamings, next_after, side};
+ghost use Rattle.passify.specs.Writing.{renamings, next_after, next_after_both, side};
 
-use crate::maps::NameMap;
-use kinds::numbered::{Name, Node};
-use passive::rows::{PassiveRow, PassiveTermRow};
+use crate::maps::{Exits, NameMap};
+use kinds::numbered::Name;
+use passive::rows::{PassiveRow, PassiveTag, PassiveTermRow};
+use routine::rows::{Item, Joint};
 
 // A place in the two tables: the next row and the next term row.
 #[derive(Clone, Copy)]
 pub struct Place {
     pub row: u32,
     pub term: u32,
-}
-
-// A row with a term.
-pub fn term_row(tag: u32, f: Name, from: u32, count: u32) -> PassiveRow
-    ensures { result ≡ passive_row tag f from count 0 }
-{
-    PassiveRow {
-        tag,
-        f,
-        from,
-        count,
-        left: 0,
-        n: Node(0),
-        x: Node(0),
-        w: Node(0),
-    }
-}
-
-// A row that joins two parts.
-pub fn joint_row(tag: u32, left: u32) -> PassiveRow
-    ensures { result ≡ row_of_joint tag left }
-{
-    PassiveRow {
-        left,
-        ..term_row(tag, Name(0), 0, 0)
-    }
 }
 
 pub fn write_row(rows: &mut [PassiveRow], at: Place, row: PassiveRow) -> Place
@@ -65,11 +39,8 @@ fn write_let(
     requires { Room (let_piece (record { new = new; old = old }) at.term) at rows.old terms.old }
     ensures { Wrote (let_piece (record { new = new; old = old }) at.term) at rows.old rows.new terms.old terms.new result }
 {
-    terms[at.term as usize] = PassiveTermRow {
-        tag: 2,
-        number: old.0,
-    };
-    rows[at.row as usize] = term_row(9, new, at.term, 1);
+    terms[at.term as usize] = Item::Reference(old).into();
+    rows[at.row as usize] = PassiveRow::with_term(PassiveTag::Let, new, at.term, 1);
     Place {
         row: at.row + 1,
         term: at.term + 1,
@@ -89,12 +60,15 @@ fn write_next_let(
     requires room { Room (next_let start (record { new = new; old = old }) at) at rows.old terms.old }
     ensures { Wrote (next_let start (record { new = new; old = old }) at) at rows.old rows.new terms.old terms.new result }
 {
+    let after = write_let(rows, terms, at, new, old);
     if at.row == start.row {
-        write_let(rows, terms, at, new, old)
-    } else {
-        let after = write_let(rows, terms, at, new, old);
-        write_row(rows, after, joint_row(6, at.row - 1))
+        return after;
     }
+    write_row(
+        rows,
+        after,
+        PassiveRow::joining(Joint::Sequence, at.row - 1),
+    )
 }
 
 // The place behind what was written, and the next new name.
@@ -106,7 +80,6 @@ pub struct Renamed {
 
 // A let for each variable that the two maps name apart: its new name takes the value of its name in `a`.
 fn write_lets(
-    v: u32,
     a: &NameMap,
     b: &NameMap,
     next: u32,
@@ -114,17 +87,16 @@ fn write_lets(
     terms: &mut [PassiveTermRow],
     start: Place,
 ) -> Renamed
-    requires few { v ≤ 32 }
-    requires names { next_after v (Some a.now) (Some b.now) next ≤ 2 ^ 16 }
-    requires room { Room (lets_piece (renamings v (Some a.now) (Some b.now) next) start.row start.term) start rows.old terms.old }
-    ensures wrote { Wrote (lets_piece (renamings v (Some a.now) (Some b.now) next) start.row start.term) start rows.old rows.new terms.old terms.new result.end }
-    ensures next { result.next ≡ next_after v (Some a.now) (Some b.now) next }
+    requires names { next_after (Some a.now) (Some b.now) next ≤ 2 ^ 16 }
+    requires room { Room (lets_piece (renamings (Some a.now) (Some b.now) next) start.row start.term) start rows.old terms.old }
+    ensures wrote { Wrote (lets_piece (renamings (Some a.now) (Some b.now) next) start.row start.term) start rows.old rows.new terms.old terms.new result.end }
+    ensures next { result.next ≡ next_after (Some a.now) (Some b.now) next }
 {
     let mut at = start;
     let mut k = next;
-    for i in 0..v as usize {
-        if a.names[i].0 != b.names[i].0 {
-            at = write_next_let(rows, terms, start, at, Name(k as u16), a.names[i]);
+    for (old, other) in a.as_slice().iter().zip(b.as_slice()) {
+        if old != other {
+            at = write_next_let(rows, terms, start, at, Name(k as u16), *old);
             k += 1;
         }
     }
@@ -133,7 +105,6 @@ fn write_lets(
 
 // The same of maps that may be absent: then there is nothing to rename.
 fn write_renaming(
-    v: u32,
     a: Option<NameMap>,
     b: Option<NameMap>,
     next: u32,
@@ -141,22 +112,19 @@ fn write_renaming(
     terms: &mut [PassiveTermRow],
     at: Place,
 ) -> Renamed
-    requires few { v ≤ 32 }
-    requires names { next_after v a b next ≤ 2 ^ 16 }
-    requires room { Room (lets_piece (renamings v a b next) at.row at.term) at rows.old terms.old }
-    ensures wrote { Wrote (lets_piece (renamings v a b next) at.row at.term) at rows.old rows.new terms.old terms.new result.end }
-    ensures next { result.next ≡ next_after v a b next }
+    requires names { next_after a b next ≤ 2 ^ 16 }
+    requires room { Room (lets_piece (renamings a b next) at.row at.term) at rows.old terms.old }
+    ensures wrote { Wrote (lets_piece (renamings a b next) at.row at.term) at rows.old rows.new terms.old terms.new result.end }
+    ensures next { result.next ≡ next_after a b next }
 {
     match (a, b) {
-        (Some(x), Some(y)) => write_lets(v, &x, &y, next, rows, terms, at),
-        (Some(_), None) => Renamed { end: at, next },
-        (None, _) => Renamed { end: at, next },
+        (Some(x), Some(y)) => write_lets(&x, &y, next, rows, terms, at),
+        _ => Renamed { end: at, next },
     }
 }
 
 // The renaming of a part where it ends normally, behind the part.
 fn write_tail(
-    v: u32,
     a: Option<NameMap>,
     b: Option<NameMap>,
     next: u32,
@@ -164,26 +132,25 @@ fn write_tail(
     terms: &mut [PassiveTermRow],
     at: Place,
 ) -> Renamed
-    requires few { v ≤ 32 }
-    requires names { next_after v a b next ≤ 2 ^ 16 }
+    requires names { next_after a b next ≤ 2 ^ 16 }
     requires behind { 0 < at.row }
-    requires room { Room (tail_piece (renamings v a b next) at.row at.term) at rows.old terms.old }
-    ensures wrote { Wrote (tail_piece (renamings v a b next) at.row at.term) at rows.old rows.new terms.old terms.new result.end }
-    ensures next { result.next ≡ next_after v a b next }
+    requires room { Room (tail_piece (renamings a b next) at.row at.term) at rows.old terms.old }
+    ensures wrote { Wrote (tail_piece (renamings a b next) at.row at.term) at rows.old rows.new terms.old terms.new result.end }
+    ensures next { result.next ≡ next_after a b next }
 {
-    let lets = write_renaming(v, a, b, next, rows, terms, at);
+    let lets = write_renaming(a, b, next, rows, terms, at);
     if lets.end.row == at.row {
         return lets;
     }
+    let joined = PassiveRow::joining(Joint::Sequence, at.row - 1);
     Renamed {
-        end: write_row(rows, lets.end, joint_row(6, at.row - 1)),
+        end: write_row(rows, lets.end, joined),
         next: lets.next,
     }
 }
 
 // The renaming of a part where it ends raised, behind the part.
 fn write_guard(
-    v: u32,
     a: Option<NameMap>,
     b: Option<NameMap>,
     next: u32,
@@ -191,43 +158,40 @@ fn write_guard(
     terms: &mut [PassiveTermRow],
     at: Place,
 ) -> Renamed
-    requires few { v ≤ 32 }
-    requires names { next_after v a b next ≤ 2 ^ 16 }
+    requires names { next_after a b next ≤ 2 ^ 16 }
     requires behind { 0 < at.row }
-    requires room { Room (guard_piece (renamings v a b next) at.row at.term) at rows.old terms.old }
-    ensures wrote { Wrote (guard_piece (renamings v a b next) at.row at.term) at rows.old rows.new terms.old terms.new result.end }
-    ensures next { result.next ≡ next_after v a b next }
+    requires room { Room (guard_piece (renamings a b next) at.row at.term) at rows.old terms.old }
+    ensures wrote { Wrote (guard_piece (renamings a b next) at.row at.term) at rows.old rows.new terms.old terms.new result.end }
+    ensures next { result.next ≡ next_after a b next }
 {
-    let lets = write_renaming(v, a, b, next, rows, terms, at);
+    let lets = write_renaming(a, b, next, rows, terms, at);
     if lets.end.row == at.row {
         return lets;
     }
-    let raise = write_row(rows, lets.end, joint_row(5, 0));
-    let sequence = write_row(rows, raise, joint_row(6, lets.end.row - 1));
+    let raise = write_row(rows, lets.end, PassiveRow::plain(PassiveTag::Raise));
+    let joined = PassiveRow::joining(Joint::Sequence, lets.end.row - 1);
+    let sequence = write_row(rows, raise, joined);
+    let caught = PassiveRow::joining(Joint::Catch, at.row - 1);
     Renamed {
-        end: write_row(rows, sequence, joint_row(8, at.row - 1)),
+        end: write_row(rows, sequence, caught),
         next: lets.next,
     }
 }
 
-// Both renamings of a part: `na` and `xa` are the maps that it ends with, `nb` and `xb` those of the other part.
+// Both renamings of a part with the exits `a`, where the other part has the exits `b`.
 pub fn write_side(
-    v: u32,
-    na: Option<NameMap>,
-    nb: Option<NameMap>,
-    xa: Option<NameMap>,
-    xb: Option<NameMap>,
+    a: &Exits,
+    b: &Exits,
     next: u32,
     rows: &mut [PassiveRow],
     terms: &mut [PassiveTermRow],
     at: Place,
 ) -> Place
-    requires few { v ≤ 32 }
-    requires names { next_after v xa xb (next_after v na nb next) ≤ 2 ^ 16 }
+    requires names { next_after_both a.now b.now next ≤ 2 ^ 16 }
     requires behind { 0 < at.row }
-    requires room { Room (side v na nb xa xb next at) at rows.old terms.old }
-    ensures { Wrote (side v na nb xa xb next at) at rows.old rows.new terms.old terms.new result }
+    requires room { Room (side a.now b.now next at) at rows.old terms.old }
+    ensures { Wrote (side a.now b.now next at) at rows.old rows.new terms.old terms.new result }
 {
-    let tail = write_tail(v, na, nb, next, rows, terms, at);
-    write_guard(v, xa, xb, tail.next, rows, terms, tail.end).end
+    let tail = write_tail(a.normal, b.normal, next, rows, terms, at);
+    write_guard(a.raised, b.raised, tail.next, rows, terms, tail.end).end
 }

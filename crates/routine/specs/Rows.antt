@@ -1,11 +1,12 @@
 -- What a row says by its numbers.
-use Rattle.std.specs.Prelude.{ℕ, cond, Ok, Err, Result, ◌==◌}
+use Rattle.std.specs.Prelude.{ℕ, Bool, true, false, cond, Some, None, Ok, Err, Option, Result, ◌==◌}
 use Rattle.kinds.specs.declared.numbered.Variable.{Variable}
 use Rattle.kinds.specs.declared.refusals.Refusal.{Refusal}
 use Rattle.kinds.specs.declared.refusals.Refusal.TheVariants.{Tag as UnknownTag}
 use Rattle.routine.specs.declared.rows.TermRow.{TermRow}
 use Rattle.routine.specs.declared.rows.Item.{Item}
 use Rattle.routine.specs.declared.rows.Item.TheVariants.{Literal, Reference, Operation}
+use Rattle.routine.specs.declared.rows.Joint.{Joint}
 use Rattle.routine.specs.declared.rows.Joint.TheVariants.{Sequence, Choice, Catch}
 use Rattle.routine.specs.declared.rows.Tag.{Tag}
 use Rattle.routine.specs.declared.rows.Tag.TheVariants.{Assert, Assume, Assign, Skip, Raise, Join}
@@ -32,3 +33,23 @@ tag_of number =
     (cond (number == 7) (Ok (Join Choice))
     (cond (number == 8) (Ok (Join Catch))
     (Err UnknownTag))))))))
+
+-- how a command with this tag joins two others, if it does
+abbrev pub joint_of : Result Tag Refusal → Option Joint
+joint_of (Ok Assert) = None
+joint_of (Ok Assume) = None
+joint_of (Ok Assign) = None
+joint_of (Ok Skip) = None
+joint_of (Ok Raise) = None
+joint_of (Ok (Join j)) = Some j
+joint_of (Err e) = None
+
+-- whether a term belongs to a command with this tag
+abbrev pub tells_term : Result Tag Refusal → Bool
+tells_term (Ok Assert) = true
+tells_term (Ok Assume) = true
+tells_term (Ok Assign) = true
+tells_term (Ok Skip) = false
+tells_term (Ok Raise) = false
+tells_term (Ok (Join j)) = false
+tells_term (Err e) = false

@@ -110,7 +110,7 @@ fn place(
 fn check_rows(v: u32, ops: u32, commands: &[CommandRow], terms: &[TermRow]) -> Result<(), Refusal>
     ensures { result ≡ verdict (decode v ops commands.now terms.now) }
 {
-    if v > MOST_VARIABLES
+    if v as usize > MOST_VARIABLES
         || commands.is_empty()
         || commands.len() > MOST_COMMANDS
         || terms.len() > MOST_TERMS

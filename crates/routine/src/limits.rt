@@ -1,6 +1,6 @@
 // The most that a routine may have.
 
-pub const MOST_VARIABLES: u32 = 32;
+pub const MOST_VARIABLES: usize = 32;
 
 pub const MOST_COMMANDS: usize = 1023;
 

@@ -1,6 +1,6 @@
 // The rows of a routine, raw as callers pass them, and what they say.
 ghost use Rattle.std.specs.Prelude.{◌≡◌};
-ghost use Rattle.routine.specs.Rows.{tag_of, item};
+ghost use Rattle.routine.specs.Rows.{tag_of, joint_of, tells_term, item};
 
 use kinds::numbered::Variable;
 use kinds::refusals::Refusal;
@@ -68,6 +68,28 @@ impl TryFrom<u32> for Tag {
             8 => Ok(Tag::Join(Joint::Catch)),
             _ => Err(Refusal::Tag),
         }
+    }
+}
+
+impl CommandRow {
+    // How the row joins the two commands before it, if it does.
+    pub fn joint(self) -> Option<Joint>
+        ensures { result ≡ joint_of (tag_of self.tag) }
+    {
+        match Tag::try_from(self.tag) {
+            Ok(Tag::Join(joint)) => Some(joint),
+            _ => None,
+        }
+    }
+
+    // Whether a term belongs to the row.
+    pub fn has_term(self) -> bool
+        ensures { result ≡ tells_term (tag_of self.tag) }
+    {
+        matches!(
+            Tag::try_from(self.tag),
+            Ok(Tag::Assert | Tag::Assume | Tag::Assign)
+        )
     }
 }
 

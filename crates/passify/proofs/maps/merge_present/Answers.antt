@@ -1,40 +1,36 @@
-use Rattle.std.proofs.Common.{ℕ, ◌+◌, ◌<◌, Some, sym, ap, arith}
-use mathlib.Core.Path.{subst₃}
-use Rattle.passify.specs.declared.maps.NameMap.{NameMap}
-use Rattle.passify.proofs.MergeTurns.{all, Sofar, begun, same, room, apart, done}
+use Rattle.std.proofs.Common.{rules, ◌+◌, length, Some, sym, ap, subst₂, arith}
+use Rattle.std.proofs.lemmas.List.{length_push}
+use Rattle.std.proofs.lemmas.Slice.Zip.{zip_turn, zip_end}
+use Rattle.passive.specs.Passive.{name}
+use Rattle.passify.proofs.MergeTurns.{Sofar, room, apart, done, apart_names}
 use Rattle.passify.proofs.maps.merge_present.Goals as goal
-use Rattle.passify.proofs.maps.merge_present.Goals.{then-a-i, else-a-i, Then-a-i}
 
-below : (c : Then-a-i) → c.loop-i.k < (all c.args.v c.args.a.now.names c.args.b.now.names c.args.next).next
-below c = room _ _ _ _ _ _ _ _ c.loop-i-test.true c.loop-i.invariant c.if-a-i.true
-
-pub loop-i-init : goal.loop-i-init
-loop-i-init c = begun c.args.v c.args.a.now.names c.args.b.now.names c.args.next
-
-pub overflow_cast-both : goal.overflow_cast-both
-overflow_cast-both c = omega (arith, below (goal.at.overflow_cast-both c).Then-a-i, c.requires.room)
+pub overflow_cast-k : goal.overflow_cast-k
+overflow_cast-k c =
+    let z = zip_turn c.args.a.now c.args.b.now _ c.into_iter-x-iterator.result c.loop-x.x-iterator c.next.new.self _ (search rules) (search rules) c.loop-x.yielded_by _ c.in-Some.is c.next.ensures.steps in
+    let k = room _ _ _ _ _ _ _ z.0 z.1 c.loop-x.invariant (apart_names _ _ _ _ c.if-eq.ensures (z.2 (name 0)) (z.3 (name 0))) in
+    omega (arith, k, c.requires)
 
 pub overflow_add-k : goal.overflow_add-k
-overflow_add-k c = omega (arith, below (goal.at.overflow_add-k c).Then-a-i, c.requires.room)
+overflow_add-k c =
+    let z = zip_turn c.args.a.now c.args.b.now _ c.into_iter-x-iterator.result c.loop-x.x-iterator c.next.new.self _ (search rules) (search rules) c.loop-x.yielded_by _ c.in-Some.is c.next.ensures.steps in
+    let k = room _ _ _ _ _ _ _ z.0 z.1 c.loop-x.invariant (apart_names _ _ _ _ c.if-eq.ensures (z.2 (name 0)) (z.3 (name 0))) in
+    omega (arith, k, c.requires)
 
-pub overflow_add-renamed : goal.overflow_add-renamed
-overflow_add-renamed c = omega (arith, c.loop-i.invariant.few)
-
--- what a turn leaves
-After : goal.Joined-a-i → NameMap → ℕ → ℕ → Type 0
-After c m k d = Sofar c.args.v c.args.a.now.names c.args.b.now.names m.names k d c.args.next (c.loop-i.i + 1)
-
-pub loop-i-preserved : goal.loop-i-preserved
-unfolding After
-loop-i-preserved c =
-    elim c.if-a-i.branch [
-      | then-a-i w ↦ subst₃ (After c) (sym w.both-is) (sym w.k-is) (sym w.renamed-is)
-          (apart _ _ _ _ _ _ _ _ c.loop-i-test.true c.loop-i.invariant w.if-a-i.true (omega arith))
-      | else-a-i w ↦ subst₃ (After c) (sym w.both-is) (sym w.k-is) (sym w.renamed-is)
-          (same _ _ _ _ _ _ _ _ c.loop-i-test.true c.loop-i.invariant w.if-a-i.false)
-    ]
+pub loop-x-preserved : goal.loop-x-preserved
+loop-x-preserved c =
+    let z = zip_turn c.args.a.now c.args.b.now _ c.into_iter-x-iterator.result c.loop-x.x-iterator c.next.new.self _ (search rules) (search rules) c.loop-x.yielded_by _ c.in-Some.is c.next.ensures.steps in
+    subst₂ (λ ns i. Sofar c.args.a.now c.args.b.now ns (c.loop-x.k + 1) (c.loop-x.renamed + 1) c.args.next i) (sym c.push-else-eq.ensures)
+    (sym (length_push c.loop-x.yielded _))
+    (apart _ _ _ _ _ _ _ z.0 z.1 c.loop-x.invariant (apart_names _ _ _ _ c.if-eq.ensures (z.2 (name 0)) (z.3 (name 0))))
 
 pub returns : goal.returns
 returns c =
-    let d = done _ _ _ _ _ _ _ _ (omega arith) c.loop-i.invariant in
-    record { names = ap Some d.names; next = d.next; renamed = d.renamed; few = omega (arith, c.loop-i.invariant.few) }
+    let e = zip_end c.args.a.now c.args.b.now _ c.into_iter-x-iterator.result c.loop-x.x-iterator c.next.new.self _ (search rules) (search rules) c.loop-x.yielded_by c.in-None.is c.next.ensures.steps in
+    let d = done _ _ _ _ _ _ _ e c.loop-x.invariant in
+    record {
+      names = ap Some d.names;
+      next = d.next;
+      renamed = d.renamed;
+      few = omega (arith, c.loop-x.invariant.few, e, c.as_slice.ensures.few, ap length c.as_slice.ensures.names);
+    }

@@ -1,24 +1,17 @@
-use Rattle.passify.proofs.Joins.{n_room, x_room}
+use Rattle.std.proofs.Common.{ap, arith}
+use Rattle.passive.specs.Passive.{merge}
+use Rattle.passify.specs.declared.maps.Exits.{Exits}
+use Rattle.passify.specs.Measuring.{leaving}
+use Rattle.passify.proofs.Sizes.{merge_up}
 use Rattle.passify.proofs.measuring.measure_joined.Goals as goal
 
 pub merge-n-requires : goal.merge-n-requires
 merge-n-requires c =
-    let j = c.requires.fits.0 in
-    let e = c.requires.fits.1 in
-    record {
-      few = c.requires.few;
-      room =
-          n_room c.args.v c.args.left c.args.right c.left_exits-out.result j (c.left_exits-out.ensures.normal j e c.args.v)
-          (c.left_exits-out.ensures.raised j e c.args.v) c.requires.fits.2;
-    }
-
-pub merge-x-requires : goal.merge-x-requires
-merge-x-requires c =
-    let j = c.requires.fits.0 in
-    let e = c.requires.fits.1 in
-    record {
-      few = c.requires.few;
-      room =
-          x_room c.args.v c.args.left c.args.right c.left_exits-out.result j (c.left_exits-out.ensures.normal j e c.args.v)
-          (c.left_exits-out.ensures.raised j e c.args.v) c.merge-n.result c.merge-n.ensures c.requires.fits.2;
-    }
+    let out = leaving c.args.joint c.args.left.now.exits in
+    let n = merge out.normal c.args.right.now.exits.normal c.args.right.now.next in
+    omega (
+      arith,
+      c.requires.few_names,
+      merge_up out.raised c.args.right.now.exits.raised n.next,
+      ap (λ (e : Exits). (merge e.normal c.args.right.now.exits.normal c.args.right.now.next).next) c.left_exits-exits.ensures,
+    )

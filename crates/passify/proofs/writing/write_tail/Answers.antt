@@ -6,7 +6,7 @@ use Rattle.passify.proofs.Behind.{tail_lets_room, none_tail, tail_row_room, some
 use Rattle.passify.proofs.writing.write_tail.Goals as goal
 
 pub write_renaming-lets-requires : goal.write_renaming-lets-requires
-write_renaming-lets-requires c = record { few = c.requires.few; names = c.requires.names; room = tail_lets_room _ _ _ (renamings c.args.v c.args.a c.args.b c.args.next) c.requires.room }
+write_renaming-lets-requires c = record { names = c.requires.names; room = tail_lets_room _ _ _ (renamings c.args.a c.args.b c.args.next) c.requires.room }
 
 pub returns-then-lets-at : goal.returns-then-lets-at
 returns-then-lets-at c = record {
@@ -23,6 +23,6 @@ pub returns : goal.returns
 returns c = record {
   wrote =
       some_tail _ _ _ _ _ _ _ c.write_renaming-lets.ensures.wrote c.if-lets-at.false _ _
-      (wrote_as (ap one_row c.joint_row.ensures) (c.write_row.ensures _)) (omega (arith, c.requires.room.rows_room)) (omega (arith, c.requires.room.terms_room));
+      (wrote_as (ap one_row c.joining-joined.ensures) (c.write_row.ensures _)) (omega (arith, c.requires.room.rows_room)) (omega (arith, c.requires.room.terms_room));
   next = c.write_renaming-lets.ensures.next;
 }
