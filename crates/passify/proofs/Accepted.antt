@@ -110,6 +110,3 @@ module _ (v : ℕ) (cs : List CommandRow) (m : Names) (first : m ≡ Some (names
 
   pub checked_measured : (r : Measured) → ((ts : List TermRow) → Measures cs ts (length cs - 1) m v r) → FormMeasured v cs r
   checked_measured r h ops ts c is = h ts v ops c (stands v ops cs ts c is).ends ∙ start_is c
-
-pub checked_few : (v : ℕ) (cs : List CommandRow) → Checked v cs → (v ≤ 32) × (0 < length cs) × (length cs ≤ 1023)
-checked_few v cs (ops, ts, c, is) = (few_variables v ops cs ts c is, some_rows v ops cs ts c is, few_rows v ops cs ts c is)

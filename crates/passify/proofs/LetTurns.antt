@@ -1,5 +1,5 @@
 -- The loop that writes the lets of a renaming, turn by turn.
-use Rattle.std.proofs.Common.{◌≡◌, ℕ, ◌+◌, ◌-◌, ◌<◌, ◌≤◌, min, Bool, true, false, cond, eqb, List, [], ◌∷◌, length, sym, refl, ap, ◌∙◌, subst₂, append-nil, arith}
+use Rattle.std.proofs.Common.{◌≡◌, ℕ, ◌+◌, ◌-◌, ◌<◌, ◌≤◌, min, Bool, true, false, cond, eqb, List, [], ◌∷◌, length, sym, refl, ap, ◌∙◌, append-nil, arith}
 use Rattle.std.proofs.lemmas.Bool.{eq-eqb, ne_eqb, eqb-true, eqb-false}
 use Rattle.kinds.specs.declared.numbered.Name.{Name}
 use Rattle.passive.specs.Passive.{name, Merged, Renamed}
@@ -64,12 +64,6 @@ module _ (ks bs : List Name) (next : ℕ) (s : Place) (E : List PassiveRow) (T :
     pub wrote : Wrote done s E out T outt p
     pub split : done then left_to_write s p (rest ks bs i k).left ≡ whole
     pub names : (rest ks bs i k).next ≡ (all ks bs next).next
-
-  pub moved :
-      (k k' i : ℕ) (p p' : Place) (out out' : List PassiveRow) (outt outt' : List PassiveTermRow) → k' ≡ k → p' ≡ p → out' ≡ out → outt' ≡ outt
-      → Sofar k i p out outt → Sofar k' i p' out' outt'
-  moved k k' i p p' out out' outt outt' ek ep eo et so =
-      subst₂ (λ x y. Sofar k' i p' x y) (sym eo) (sym et) (subst₂ (λ x y. Sofar x i y out outt) (sym ek) (sym ep) so)
 
   pub begun : Sofar next 0 s E T
   begun = record {

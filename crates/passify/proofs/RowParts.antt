@@ -1,5 +1,5 @@
 -- The command that ends at a row: a single one, or two parts joined; and what measuring the parts says of the whole.
-use Rattle.std.proofs.Common.{◌≡◌, ℕ, ◌-◌, ◌<◌, List, length, get_or, Some, None, Option, sym, refl, ap, ◌∙◌, subst, arith}
+use Rattle.std.proofs.Common.{◌≡◌, ℕ, ◌-◌, ◌<◌, List, get_or, Some, None, Option, sym, refl, ap, ◌∙◌, subst, arith}
 use Rattle.kinds.specs.declared.numbered.Name.{Name}
 use Rattle.routine.specs.declared.rows.TermRow.{TermRow}
 use Rattle.routine.specs.declared.rows.CommandRow.{CommandRow}
@@ -10,7 +10,7 @@ use Rattle.routine.specs.Commands.{Single, assert, assume, assign, skip, raise, 
 use Rattle.routine.specs.Standing.{no_row, single_tag, joint_tag, Fields, EndsAt}
 use Rattle.passive.specs.Passive.{Names, passify_single, entry}
 use Rattle.passify.specs.declared.measuring.Measured.{Measured}
-use Rattle.passify.specs.Measuring.{sizes, stop_sizes, joined_sizes, measured, Fits, AtSingle, SomeSingle, Measurable, Measures}
+use Rattle.passify.specs.Measuring.{sizes, joined_sizes, measured, Fits, SomeSingle, Measurable, Measures}
 use Rattle.passify.proofs.Sizes.{measured_up, fits_parts}
 
 abbrev pub at : List CommandRow → ℕ → CommandRow
@@ -65,14 +65,6 @@ module _ (v ops : ℕ) (cs : List CommandRow) (ts : List TermRow) (i : ℕ) wher
   alone (join j a b) e n = absurd (some_or_none (sym (tagged e.1 ∙ of_joint j) ∙ n))
 
 module _ (cs : List CommandRow) (ts : List TermRow) (i : ℕ) (k : ℕ) where
-  pub in_table : (o : Names) → Measurable cs ts i o k → i < length cs
-  in_table o (v, ops, single c, e, f) = e.0
-  in_table o (v, ops, join j a b, e, f) = e.0
-
-  pub stop_measured : Measures cs ts i None k (stop_sizes k)
-  stop_measured v ops (single c) e = refl
-  stop_measured v ops (join j a b) e = refl
-
   module _ (m : List Name) where
     -- a single command
     module _ (n : joint_at cs i ≡ None) where
@@ -80,11 +72,6 @@ module _ (cs : List CommandRow) (ts : List TermRow) (i : ℕ) (k : ℕ) where
       single_measurable (v, ops, c, e, f) =
           let s = alone v ops cs ts i c e n in
           (v, ops, s.command, s.tag, s.fields, subst (λ (x : Command). Fits (measured x (Some m) k)) s.is f)
-
-      pub single_measured : (z : Measured) → AtSingle ts (at cs i) (λ c. z ≡ sizes (passify_single c m k)) → Measures cs ts i (Some m) k z
-      single_measured z h v ops c e =
-          let s = alone v ops cs ts i c e n in
-          h v ops s.command s.tag s.fields ∙ ap (λ (x : Command). measured x (Some m) k) (sym s.is)
 
     -- two parts joined
     module _ (j : Joint) (s : joint_at cs i ≡ Some j) where

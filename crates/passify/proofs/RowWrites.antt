@@ -5,7 +5,7 @@ use Rattle.routine.specs.declared.rows.TermRow.{TermRow}
 use Rattle.routine.specs.declared.rows.CommandRow.{CommandRow}
 use Rattle.routine.specs.declared.rows.Joint.{Joint}
 use Rattle.routine.specs.Commands.{Command, single, join}
-use Rattle.passive.specs.Passive.{Names, Passified, entry, joined, passify_single, passify}
+use Rattle.passive.specs.Passive.{Names, Passified, entry, joined, passify}
 use Rattle.routine.specs.Standing.{joint_tag}
 use Rattle.passive.specs.Layout.{joint_row, plain_row}
 use Rattle.passive.specs.declared.rows.PassiveTermRow.{PassiveTermRow}
@@ -14,11 +14,11 @@ use Rattle.passify.specs.declared.measuring.Measured.{Measured}
 use Rattle.passify.specs.declared.maps.Exits.{Exits}
 use Rattle.passify.specs.declared.writing.Place.{Place}
 use Rattle.passify.specs.declared.passing.Passed.{Passed}
-use Rattle.passify.specs.Measuring.{sizes, stop_sizes, leaving, joined_sizes, measured, Fits, SomeSingle, AtSingle, Measurable, Measures}
+use Rattle.passify.specs.Measuring.{sizes, stop_sizes, leaving, joined_sizes, measured, Fits, SomeSingle, Measurable, Measures}
 use Rattle.passify.specs.Pieces.{Piece, one_row, form_piece, Wrote, Room}
-use Rattle.passify.specs.Writing.{next_after_both, side, single_piece, SingleWritable, command_piece, Writable, Written}
+use Rattle.passify.specs.Writing.{next_after_both, side, SingleWritable, command_piece, Writable, Written}
 use Rattle.passify.proofs.Sizes.{sizes_joined, measured_is}
-use Rattle.passify.proofs.RowParts.{at, joint_at, Parts, parts, alone, single_measured, fit_both, right_measurable, right_is as parts_right, joined_measures}
+use Rattle.passify.proofs.RowParts.{at, joint_at, Parts, parts, alone, fit_both, right_measurable, right_is as parts_right, joined_measures}
 use Rattle.passify.proofs.JoinPieces.{left_names, right_names, first_room, left_behind, left_room, middle_behind, second_room, right_behind, right_room, last_room, whole_written}
 
 -- what the renamings of one part ask
@@ -30,13 +30,6 @@ pub record SideRoom (a b : Exits) (next : ℕ) (p : Place) (E : List PassiveRow)
 module _ (cs : List CommandRow) (ts : List TermRow) (i k : ℕ) (s : Place) (E : List PassiveRow) (T : List PassiveTermRow) where
   pub writable_measurable : (o : Names) → Writable cs ts i o k s E T → Measurable cs ts i o k
   writable_measurable o (v, ops, c, e, f, room) = (v, ops, c, e, f)
-
-  pub stop_room : (o : Names) → Writable cs ts i o k s E T → o ≡ None → (s.row < length E) × (s.row + 1 < 2 ^ 32)
-  stop_room o (v, ops, c, e, f, room) is = go c (subst (λ x. Room (command_piece x k c s) s E T) is room)
-    where
-      go : (c : Command) → Room (command_piece None k c s) s E T → (s.row < length E) × (s.row + 1 < 2 ^ 32)
-      go (single c) r = (omega (arith, r.rows_room), r.rows_few)
-      go (join j a b) r = (omega (arith, r.rows_room), r.rows_few)
 
   pub stop_written :
       (o : Names) (E' : List PassiveRow) (r : Passed) → o ≡ None
@@ -63,16 +56,6 @@ module _ (cs : List CommandRow) (ts : List TermRow) (i k : ℕ) (s : Place) (E :
               subst (λ (x : Command). Fits (measured x (Some m) k)) a.is f,
               subst (λ (x : Command). Room (command_piece (Some m) k x s) s E T) a.is room,
             ),
-          )
-
-      pub single_written :
-          (E' : List PassiveRow) (T' : List PassiveTermRow) (r : Passed)
-          → AtSingle ts (at cs i) (λ c. r.measured ≡ sizes (passify_single c m k))
-          → AtSingle ts (at cs i) (λ c. Wrote (single_piece m k c s) s E E' T T' r.end) → Written cs ts i (Some m) k s E E' T T' r
-      single_written E' T' r hm hw v ops c e =
-          let a = alone v ops cs ts i c e none in (
-            single_measured cs ts i k m none r.measured hm v ops c e,
-            subst (λ (x : Command). Wrote (command_piece (Some m) k x s) s E E' T T' r.end) (sym a.is) (hw v ops a.command a.tag a.fields),
           )
 
     -- two parts joined

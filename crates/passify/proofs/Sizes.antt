@@ -176,9 +176,6 @@ measured_up (join j c d) (Some m) k =
     let e = entry j m a.exits.normal a.exits.raised in
     omega (arith, measured_up c (Some m) k, measured_up d e a.next, joined_up j a (measured d e a.next))
 
-pub passify_up : (c : Command) (m : Names) (k : ℕ) → k ≤ (passify c m k).next
-passify_up c m k = omega (arith, measured_up c m k, ap (λ (s : Measured). s.next) (measured_is c m k))
-
 pub fits_parts : (j : Joint) (a b : Measured) → a.next ≤ b.next → Fits (joined_sizes j a b) → Fits a × Fits b
 fits_parts j a b h f = (
   record {
