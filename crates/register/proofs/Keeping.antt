@@ -140,7 +140,7 @@ module _ {V : Type 0} {S : Type 0} (K : KindOf V) (M : Meaning V S) (steps : S �
   }
 
   -- one call keeps it
-  kept_after : {before : Held S} {q : Request} {x : Answer} {after : Held S} (v : ℕ) (os : List Origin) → Answered K M steps before q x after
+  kept_after : {before : Held S} {q : Request} {x : Result Answer Refusal} {after : Held S} (v : ℕ) (os : List Origin) → Answered K M steps before q x after
       → Kept K M v before os → Kept K M v after (origins_after v K.ops os q x)
   kept_after v os (filed {before} {after} {cs} {ts} {c} {filled} {n} is ok f) h =
       kept_filed before after cs ts c filled n is (names_within K M steps before cs ts c is ok) f v os h

@@ -9,7 +9,7 @@ use Rattle.kinds.specs.declared.refusals.Refusal.{Refusal}
 use Rattle.kinds.specs.declared.refusals.Refusal.TheVariants.{NotInUse, Struck, Places, Entries}
 use Rattle.formula.specs.Store.{Making, make_and, Meaning, unless, refused_by, DoneOrRefused, node_no}
 use Rattle.register.specs.declared.entries.Entry.{Entry}
-use Rattle.register.specs.declared.entries.Answer.TheVariants.{Joined, Marked, Shown, Refused}
+use Rattle.register.specs.declared.entries.Answer.TheVariants.{Joined, Marked, Shown}
 use Rattle.register.specs.declared.registers.Entries.{Entries as Kept}
 use Rattle.register.specs.Held.{most_entries, Held, entry, entry_at, struck_out, there, standing, entry_refusal, join_tests}
 use Rattle.register.specs.Answers.{join_request, strike_request, read_request, reading, rise, Answered, joined, join_refused, struck, shown}
@@ -61,16 +61,16 @@ module _ {V : Type 0} {S : Type 0} (K : KindOf V) (M : Meaning V S) (steps : S �
 
   pub struck_by :
       (j : ℕ) (es : List Entry) → entry_refusal h.entries j ≡ None → es ≡ set h.entries j (struck_out (entry_at h.entries j))
-      → Answered K M steps h (strike_request j) Marked (with_both h.store es)
-  struck_by j es p q = subst (λ zs. Answered K M steps h (strike_request j) Marked (with_both h.store zs)) (sym q) (struck p)
+      → Answered K M steps h (strike_request j) (Ok Marked) (with_both h.store es)
+  struck_by j es p q = subst (λ zs. Answered K M steps h (strike_request j) (Ok Marked) (with_both h.store zs)) (sym q) (struck p)
 
   pub shown_by :
       (j : ℕ) (es : List Entry) → entry_refusal h.entries j ≡ None → es ≡ h.entries
-      → Answered K M steps h (read_request j) (Shown (reading (entry_at es j))) h
-  shown_by j es p q = subst (λ zs. Answered K M steps h (read_request j) (Shown (reading (entry_at zs j))) h) (sym q) (shown p)
+      → Answered K M steps h (read_request j) (Ok (Shown (reading (entry_at es j)))) h
+  shown_by j es p q = subst (λ zs. Answered K M steps h (read_request j) (Ok (Shown (reading (entry_at zs j)))) h) (sym q) (shown p)
 
   module _ (j k : ℕ) where
-    pub not_joined_first : (e : Refusal) → join_tests M h.store h.entries j k None ≡ Some e → Answered K M steps h (join_request j k) (Refused e) h
+    pub not_joined_first : (e : Refusal) → join_tests M h.store h.entries j k None ≡ Some e → Answered K M steps h (join_request j k) (Err e) h
     not_joined_first e p = join_refused (refused_first M h.store h.entries j k _ e p)
 
     -- the entries as they were read, when the store is asked
@@ -83,19 +83,19 @@ module _ {V : Type 0} {S : Type 0} (K : KindOf V) (M : Meaning V S) (steps : S �
       asked_of : DoneOrRefused (refused_by K M h.store (both h.entries)) (steps h.store (both h.entries)) h.store r t
       asked_of = subst (λ zs. DoneOrRefused (refused_by K M h.store (both zs)) (steps h.store (both zs)) h.store r t) same asked
 
-      pub not_joined_last : (e : Refusal) → r ≡ Err e → Answered K M steps h (join_request j k) (Refused e) (with_both t h.entries)
+      pub not_joined_last : (e : Refusal) → r ≡ Err e → Answered K M steps h (join_request j k) (Err e) (with_both t h.entries)
       not_joined_last e p =
           let a = subst (λ z. DoneOrRefused (refused_by K M h.store (both h.entries)) (steps h.store (both h.entries)) h.store z t) p asked_of in
-          subst (λ z. Answered K M steps h (join_request j k) (Refused e) (with_both z h.entries)) (sym a.1)
+          subst (λ z. Answered K M steps h (join_request j k) (Err e) (with_both z h.entries)) (sym a.1)
           (join_refused (asked_last M h.store h.entries j k _ free ∙ a.0))
 
       pub joined_by :
           (n : Node) (after : List Entry) (names risen : ℕ) → r ≡ Ok n → after ≡ h.entries ++ (entry n names risen ∷ [])
           → names ≡ max (entry_at es j).names (entry_at es k).names → risen ≡ rise K M steps h.store t
-          → Answered K M steps h (join_request j k) (Joined (record { entry = length es; node = n })) (with_both t after)
+          → Answered K M steps h (join_request j k) (Ok (Joined (record { entry = length es; node = n }))) (with_both t after)
       joined_by n after names risen p q largest far =
           let a = subst (λ z. DoneOrRefused (refused_by K M h.store (both h.entries)) (steps h.store (both h.entries)) h.store z t) p asked_of in
-          subst (λ zs. Answered K M steps h (join_request j k) (Joined (record { entry = length zs; node = n })) (with_both t after)) (sym same)
+          subst (λ zs. Answered K M steps h (join_request j k) (Ok (Joined (record { entry = length zs; node = n }))) (with_both t after)) (sym same)
           (joined (asked_last M h.store h.entries j k _ free ∙ a.0)
           (record {
             made = a.1;

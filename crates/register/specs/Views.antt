@@ -5,7 +5,7 @@ use Rattle.passive.specs.declared.rows.PassiveTermRow.{PassiveTermRow}
 use Rattle.passive.specs.declared.rows.PassiveRow.{PassiveRow}
 use Rattle.register.specs.declared.entries.Entry.{Entry}
 use Rattle.register.specs.declared.entries.Answer.{Answer}
-use Rattle.register.specs.declared.entries.Answer.TheVariants.{Marked, Refused}
+use Rattle.register.specs.declared.entries.Answer.TheVariants.{Marked}
 use Rattle.register.specs.declared.registers.Entries.{Entries}
 use Rattle.register.specs.declared.registers.Register.{Register}
 use Rattle.register.specs.declared.entries.Request.{Request as Asked}
@@ -23,9 +23,9 @@ abbrev pub held : {S : Type 0} → Register S → List PassiveRow → List Passi
 held r E T = record { v = r.v; store = r.store; entries = listed r.entries; rows = E; terms = T }
 
 -- the answer of a call
-abbrev pub answer_by : {A : Type 0} → (A → Answer) → Result A Refusal → Answer
-answer_by f (Ok x) = f x
-answer_by f (Err e) = Refused e
+abbrev pub answer_by : {A : Type 0} → (A → Answer) → Result A Refusal → Result Answer Refusal
+answer_by f (Ok x) = Ok (f x)
+answer_by f (Err e) = Err e
 
 abbrev pub marking : Unit {0} → Answer
 marking u = Marked
@@ -37,11 +37,11 @@ request_of (Join j k) = join_request j k
 request_of (Strike j) = strike_request j
 request_of (Read j) = read_request j
 
-abbrev pub exchange : Asked → Answer → Exchange
+abbrev pub exchange : Asked → Result Answer Refusal → Exchange
 exchange q x = record { request = request_of q; answer = x }
 
 -- the requests with their answers, as many as there are of both
-abbrev pub exchanges : List Asked → List Answer → List Exchange
+abbrev pub exchanges : List Asked → List (Result Answer Refusal) → List Exchange
 exchanges [] xs = []
 exchanges (q ∷ qs) [] = []
 exchanges (q ∷ qs) (x ∷ xs) = exchange q x ∷ exchanges qs xs

@@ -1,6 +1,5 @@
 // What a register holds, what it is asked and what it answers.
 use kinds::numbered::Node;
-use kinds::refusals::Refusal;
 use routine::rows::{CommandRow, TermRow};
 
 // A condition: its node, how many names it speaks of, how far the store's count rose in its making, and whether it is struck.
@@ -47,11 +46,11 @@ pub struct Reading {
     pub rise: u32,
 }
 
+// What a request that is not refused answers.
 #[derive(Clone, Copy, Debug, PartialEq, Eq)]
 pub enum Answer {
     Filed(Filing),
     Joined(Joining),
     Marked,
     Shown(Reading),
-    Refused(Refusal),
 }
