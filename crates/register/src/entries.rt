@@ -11,6 +11,16 @@ pub struct Entry {
     pub struck: bool,
 }
 
+impl Entry {
+    // An entry that is yet to be made.
+    pub const BLANK: Entry = Entry {
+        node: Node(0),
+        names: 0,
+        rise: 0,
+        struck: false,
+    };
+}
+
 // A request: a routine to file, two entries to join, an entry to strike or to read.
 #[derive(Clone, Copy)]
 pub enum Request<'a> {
