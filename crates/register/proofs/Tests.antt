@@ -28,15 +28,25 @@ unrefused (Some d) x y p = cc
 pub entry_there : (es : List Entry) (j : ℕ) (e : Entry) → unless_refused (entry_refusal es j) (entry_at es j) ≡ Ok e → j < length es
 entry_there es j e p = ltb-true j (length es) (unless_passed (there es j) NotInUse _ (unrefused (entry_refusal es j) (entry_at es j) e p).0)
 
--- what comes after the tests of a join decides where they refuse nothing
-tests_then :
-    (a b c d : Bool) (next : Option Refusal) → unless a NotInUse (unless b Struck (unless c Places (unless d Entries next)))
-    ≡ option_or (unless a NotInUse (unless b Struck (unless c Places (unless d Entries None)))) next
+-- the four tests of a join, and what comes next
+abbrev pub tests : (a b c d : Bool) → Option Refusal → Option Refusal
+tests a b c d next = unless a NotInUse (unless b Struck (unless c Places (unless d Entries next)))
+
+-- what comes next decides where they refuse nothing
+tests_then : (a b c d : Bool) (next : Option Refusal) → tests a b c d next ≡ option_or (tests a b c d None) next
 tests_then false b c d next = refl
 tests_then true false c d next = refl
 tests_then true true false d next = refl
 tests_then true true true false next = refl
 tests_then true true true true next = refl
+
+-- and changes nothing where it refuses nothing
+pub tests_silent : (a b c d : Bool) (next : Option Refusal) → (a ≡ true → c ≡ true → next ≡ None) → tests a b c d next ≡ tests a b c d None
+tests_silent false b c d next h = refl
+tests_silent true false c d next h = refl
+tests_silent true true false d next h = refl
+tests_silent true true true false next h = refl
+tests_silent true true true true next h = h refl refl
 
 pub join_tests_then :
     {V : Type 0} {S : Type 0} (M : Meaning V S) (s : S) (es : List Entry) (j k : ℕ) (next o : Option Refusal) → join_tests M s es j k None ≡ o

@@ -2,8 +2,9 @@
 
 #![tactic(auto)]
 
-ghost use Rattle.std.specs.Prelude.{◌≡◌};
+ghost use Rattle.std.specs.Prelude.{◌≡◌, IfOk};
 ghost use Rattle.routine.specs.Decoding.{decode, verdict};
+ghost use Rattle.walkthrough.specs.Made.{MakesWithRows};
 
 mod text;
 
@@ -31,6 +32,10 @@ struct Routine<'a> {
     commands: &'a [CommandRow],
     terms: &'a [TermRow],
     form: FormMeasures,
+}
+
+fn refused(refusal: Refusal) -> anyhow::Error {
+    anyhow!("the routine was {refusal}")
 }
 
 // Prints what was asked and what was answered.
@@ -112,7 +117,7 @@ fn show_passive_form(rt: &HostRuntime, routine: Routine<'_>) -> anyhow::Result<(
         passive_rows.as_mut_slice(),
         passive_terms.as_mut_slice(),
     )
-    .map_err(|refusal| anyhow!("the routine was {refusal}"))?;
+    .map_err(refused)?;
     text::print_passive_form(rt, passive_rows.as_slice(), passive_terms.as_slice())
 }
 
@@ -121,7 +126,9 @@ fn condition_in<S: Store>(
     rt: &HostRuntime,
     store: &mut S,
     routine: Routine<'_>,
-) -> anyhow::Result<(Condition, Vec<PassiveRow>)> {
+) -> anyhow::Result<(Condition, Vec<PassiveRow>)>
+    ensures { IfOk result (λ made. MakesWithRows S.Value.kind S.meaning S.steps 2 (decode 2 S.Value.kind.ops routine.entry.commands.now routine.entry.terms.now) store.old made.0 store.new made.1.items) }
+{
     let mut rows = vec![in rt.alloc(); PassiveRow::BLANK; routine.form.rows as usize]?;
     let mut out = vec![in rt.alloc(); PassiveTermRow::BLANK; routine.form.terms as usize]?;
     let made = make_condition(
@@ -132,7 +139,7 @@ fn condition_in<S: Store>(
         rows.as_mut_slice(),
         out.as_mut_slice(),
     )
-    .map_err(|refusal| anyhow!("the condition was {refusal}"))?;
+    .map_err(refused)?;
     Ok((made, rows))
 }
 
@@ -140,8 +147,7 @@ fn condition_in<S: Store>(
 fn show_nodes(rt: &HostRuntime, routine: Routine<'_>) -> anyhow::Result<()> {
     let nodes = vec![in rt.alloc(); NodeRow::BLANK; routine.form.nodes as usize]?;
     let mut store: TableStore<Number> = TableStore::new(nodes, routine.form.names);
-    let (made, rows) = condition_in(rt, &mut store, routine)?;
-    let Condition { node, rise, .. } = made;
+    let (Condition { node, rise, .. }, rows) = condition_in(rt, &mut store, routine)?;
     println!(rt; "It made {rise} nodes, from 2 on; the condition is {node}.")?;
     println!(rt; "N, X and W of a row say whether it may end normally, raised or wrong.")?;
     text::print_row_nodes(rt, &store, rows.as_slice())?;
@@ -159,9 +165,7 @@ fn truth_under(rt: &HostRuntime, routine: Routine<'_>, assignment: &[i32]) -> an
     }
     let mut store: Evaluator<Number> = Evaluator::new(values, routine.form.names);
     let (made, _) = condition_in(rt, &mut store, routine)?;
-    let value = store
-        .value(made.node)
-        .map_err(|refusal| anyhow!("the condition's value was {refusal}"))?;
+    let value = store.value(made.node).map_err(refused)?;
     Ok(value.truth())
 }
 
@@ -283,13 +287,10 @@ fn run(rt: &HostRuntime) -> anyhow::Result<()> {
     println!(rt;
         "\nIts passive form, with a name n0, n1, .. for each value that a variable takes:"
     )?;
-    let form = measure::<Number>(2, &commands, &terms).map_err(|refusal| anyhow!(
-        "the routine was {refusal}"
-    ))?;
     let routine = Routine {
         commands: &commands,
         terms: &terms,
-        form,
+        form: measure::<Number>(2, &commands, &terms).map_err(refused)?,
     };
     show_passive_form(rt, routine)?;
     println!(rt; "\nIts condition, in a table store; node 0 is no and node 1 is yes:")?;

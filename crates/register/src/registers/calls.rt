@@ -40,11 +40,9 @@ impl<S: Store> Register<S> {
         ensures { let es = self.now.entries in result ≡ unless_refused (join_tests S.meaning self.now.store es j k None) (entry_at es j, entry_at es k) }
     {
         let all = self.entries.in_use();
-        let (j, k) = (j as usize, k as usize);
-        if j >= all.len() || k >= all.len() {
+        let (Some(left), Some(right)) = (all.get(j as usize), all.get(k as usize)) else {
             return Err(Refusal::NotInUse);
-        }
-        let (left, right) = (all[j], all[k]);
+        };
         if left.struck || right.struck {
             return Err(Refusal::Struck);
         }
@@ -54,7 +52,7 @@ impl<S: Store> Register<S> {
         if self.entries.is_full() {
             return Err(Refusal::Entries);
         }
-        Ok((left, right))
+        Ok((*left, *right))
     }
 
     // Files the condition of a routine. Its passive form, with the nodes of each row, stands at the front of the two tables afterwards.
