@@ -1,5 +1,5 @@
 -- A routine that is filed has no more names than the store is wide.
-use Rattle.std.proofs.Common.{◌≡◌, ℕ, ◌≤◌, Bool, true, false, cond, leb, List, length, Ok, Err, Result, refl, subst, arith}
+use Rattle.std.proofs.Common.{◌≡◌, ℕ, ◌≤◌, Bool, true, false, cond, leb, List, length, Ok, Err, Result, refl, subst}
 use Rattle.std.proofs.lemmas.Bool.{and_parts, leb-true}
 use Rattle.kinds.specs.Kind.{KindOf}
 use Rattle.kinds.specs.declared.numbered.Node.{Node}
@@ -20,7 +20,7 @@ use Rattle.register.specs.Answers.{room_for_one, file_verdict}
 -- what is accepted has passed the first test of its condition
 first_passed : (b : Bool) (n : ℕ) (rest : Result FormMeasures Refusal) (m : FormMeasures) → room_for_one n (cond b rest (Err Names)) ≡ Ok m → b ≡ true
 first_passed true n rest m h = refl
-first_passed false n rest m h = let z : ◌≡◌ {A = ℕ} 0 1 = cc in absurd (omega arith)
+first_passed false n rest m h = cc
 
 module _ {V : Type 0} {S : Type 0} (K : KindOf V) (M : Meaning V S) (steps : S → Making → Node → S → Type 0) where
   pub names_within : (h : Held S) (cs : List CommandRow) (ts : List TermRow) (c : Command) → decode h.v K.ops cs ts ≡ Ok c

@@ -1,5 +1,5 @@
 -- A filing that is answered: refused at its condition, refused for want of an entry, or filed.
-use Rattle.std.proofs.Common.{◌≡◌, ℕ, ◌<◌, ◌≤◌, cond, List, [], ◌∷◌, ◌++◌, length, Ok, Err, Result, sym, refl, ap, ◌∙◌}
+use Rattle.std.proofs.Common.{◌≡◌, ℕ, ◌<◌, ◌≤◌, cond, List, [], ◌∷◌, ◌++◌, length, Ok, Err, Result, refl, ap, ◌∙◌}
 use Rattle.std.proofs.lemmas.Bool.{lt-ltb, le-ltb}
 use Rattle.kinds.specs.Kind.{KindOf}
 use Rattle.kinds.specs.declared.numbered.Node.{Node}
@@ -7,7 +7,6 @@ use Rattle.kinds.specs.declared.refusals.Refusal.{Refusal}
 use Rattle.kinds.specs.declared.refusals.Refusal.TheVariants.{Entries}
 use Rattle.routine.specs.declared.rows.TermRow.{TermRow}
 use Rattle.routine.specs.declared.rows.CommandRow.{CommandRow}
-use Rattle.routine.specs.Commands.{Command}
 use Rattle.routine.specs.Decoding.{decode}
 use Rattle.passive.specs.Passive.{passive_form}
 use Rattle.passive.specs.declared.rows.PassiveTermRow.{PassiveTermRow}
@@ -16,10 +15,10 @@ use Rattle.passify.specs.declared.calls.FormMeasures.{FormMeasures}
 use Rattle.passify.specs.Calls.{form_measures}
 use Rattle.formula.specs.Store.{Making, Meaning}
 use Rattle.conditions.specs.declared.calls.Condition.{Condition}
-use Rattle.conditions.specs.Calls.{condition_answer, ConditionStands, MakesCondition}
+use Rattle.conditions.specs.Calls.{condition_answer, MakesCondition}
 use Rattle.register.specs.declared.entries.Entry.{Entry}
 use Rattle.register.specs.declared.entries.Filing.{Filing}
-use Rattle.register.specs.declared.entries.Answer.TheVariants.{Filed, Refused}
+use Rattle.register.specs.declared.entries.Answer.TheVariants.{Filed}
 use Rattle.register.specs.Held.{most_entries, Held, entry}
 use Rattle.register.specs.Answers.{file_request, rise, room_for_one, file_verdict, Answered, filed, file_refused}
 
@@ -32,16 +31,16 @@ module _ {V : Type 0} {S : Type 0} (K : KindOf V) (M : Meaning V S) (steps : S �
   abbrev pub asked : Result FormMeasures Refusal
   asked = condition_answer M h.store (length h.rows) (length h.terms) h.v (decode h.v K.ops cs ts)
 
-  pub not_filed : (e : Refusal) → asked ≡ Err e → Answered K M steps h (file_request cs ts) (Refused e) h
+  pub not_filed : (e : Refusal) → asked ≡ Err e → Answered K M steps h (file_request cs ts) (Err e) h
   not_filed e p = file_refused (ap (room_for_one (length h.entries)) p)
 
   -- the condition could not be made, and making it left everything as it was
   pub not_made : (e : Refusal) (t : S) (E : List PassiveRow) (T : List PassiveTermRow)
       → MakesCondition K M steps h.v (decode h.v K.ops cs ts) h.store h.rows h.terms (Err e) t E T
-      → Answered K M steps h (file_request cs ts) (Refused e) (record { v = h.v; store = t; entries = h.entries; rows = E; terms = T })
+      → Answered K M steps h (file_request cs ts) (Err e) (record { v = h.v; store = t; entries = h.entries; rows = E; terms = T })
   not_made e t E T made = rw (made.1, made.2, made.3) (not_filed e made.0)
 
-  pub no_entry : (m : FormMeasures) → asked ≡ Ok m → most_entries ≤ length h.entries → Answered K M steps h (file_request cs ts) (Refused Entries) h
+  pub no_entry : (m : FormMeasures) → asked ≡ Ok m → most_entries ≤ length h.entries → Answered K M steps h (file_request cs ts) (Err Entries) h
   no_entry m p full =
       file_refused (ap (room_for_one (length h.entries)) p ∙ ap (λ b. cond b (Ok m) (Err Entries)) (le-ltb (length h.entries) most_entries full))
 
@@ -49,24 +48,17 @@ module _ {V : Type 0} {S : Type 0} (K : KindOf V) (M : Meaning V S) (steps : S �
     abbrev after : Held S
     after = record { v = h.v; store = t; entries = es; rows = E; terms = T }
 
-    filed_as :
-        (c : Command) → decode h.v K.ops cs ts ≡ Ok c → file_verdict K M steps h cs ts ≡ Ok (form_measures h.v c)
-        → ConditionStands K M steps h.v c h.store h.rows h.terms k t E T
-        → es ≡ h.entries ++ (entry k.node k.names k.rise ∷ [])
-        → Answered K M steps h (file_request cs ts) (Filed (filing_of (length h.entries) k)) after
-    filed_as c is ok stands more =
+    pub filed_by :
+        MakesCondition K M steps h.v (decode h.v K.ops cs ts) h.store h.rows h.terms (Ok k) t E T → length h.entries < most_entries
+        → es ≡ h.entries ++ (entry k.node k.names k.rise ∷ []) → Answered K M steps h (file_request cs ts) (Ok (Filed (filing_of (length h.entries) k))) after
+    filed_by made few more =
+        let c = made.0 in
+        let stands = made.3 in
+        let m = form_measures h.v c in
+        let verdict : file_verdict K M steps h cs ts ≡ Ok m =
+        ap (room_for_one (length h.entries)) made.2 ∙ ap (λ b. cond b (Ok m) (Err Entries)) (lt-ltb (length h.entries) most_entries few) in
         let entries : es ≡ h.entries ++ (entry k.node (passive_form h.v c).next (rise K M steps h.store t) ∷ []) =
         more ∙ rw (stands.names, stands.rise) refl in
         rw (stands.names, stands.rows, stands.terms, stands.rise)
-        (filed {before = h} {after = after} {cs = cs} {ts = ts} {c = c} {filled = stands.form} {n = k.node} is ok
+        (filed {before = h} {after = after} {cs = cs} {ts = ts} {c = c} {filled = stands.form} {n = k.node} made.1 verdict
         (record { made = stands.made; same_v = refl; entries = entries; rows_in = stands.rows_in; terms_in = stands.terms_in }))
-
-    pub filed_by :
-        (number : ℕ) → MakesCondition K M steps h.v (decode h.v K.ops cs ts) h.store h.rows h.terms (Ok k) t E T
-        → number ≡ length h.entries → number < most_entries → es ≡ h.entries ++ (entry k.node k.names k.rise ∷ [])
-        → Answered K M steps h (file_request cs ts) (Filed (filing_of number k)) after
-    filed_by number made is few more =
-        let m = form_measures h.v made.0 in
-        let verdict : file_verdict K M steps h cs ts ≡ Ok m =
-        ap (room_for_one (length h.entries)) made.2 ∙ ap (λ b. cond b (Ok m) (Err Entries)) (lt-ltb (length h.entries) most_entries (rw (sym is) few)) in
-        rw is (filed_as made.0 made.1 verdict made.3 more)

@@ -1,7 +1,9 @@
 -- What is kept of each entry beside its origin, and that every call keeps it.
-use Rattle.std.proofs.Common.{◌≡◌, ℕ, ◌≤◌, Bool, true, false, not, ◌&&◌, List, [], ◌∷◌, ◌++◌, length, None, Ok, Option, Result, sym, refl, ap, ◌∙◌, subst, ap₂, arith}
+use Rattle.std.proofs.Common.{◌≡◌, ℕ, ◌≤◌, Bool, true, false, not, ◌&&◌, List, [], ◌∷◌, ◌++◌, length, None, Ok, Result, sym, ap, ◌∙◌, subst, ap₂, arith}
 use mathlib.Core.Bool.{and-true}
+use Rattle.std.specs.List.{AllZip}
 use Rattle.std.proofs.lemmas.Bool.{and_parts, ltb-true}
+use Rattle.std.proofs.lemmas.Slice.Zip.{all_zipped_more}
 use Rattle.kinds.specs.Kind.{KindOf}
 use Rattle.kinds.specs.declared.numbered.Node.{Node}
 use Rattle.kinds.specs.declared.refusals.Refusal.{Refusal}
@@ -13,7 +15,7 @@ use Rattle.passive.specs.Passive.{passive_form}
 use Rattle.passive.specs.Outcomes.{Assignment, outcomes}
 use Rattle.passive.specs.declared.rows.PassiveRow.{PassiveRow}
 use Rattle.passify.proofs.Accepted.{proper, bounds}
-use Rattle.formula.specs.Store.{Making, make_and, Meaning, Lawful, yes_or_no, unless, Grown, Makes, node_no}
+use Rattle.formula.specs.Store.{Making, make_and, Meaning, Lawful, yes_or_no, Grown, Makes, node_no}
 use Rattle.conditions.specs.Valued.{ConditionValued}
 use Rattle.conditions.proofs.FormLaws.{condition_valued}
 use Rattle.register.specs.declared.entries.Entry.{Entry}
@@ -22,14 +24,10 @@ use Rattle.register.specs.Held.{Held, entry, entry_at, struck_out, there, join_r
 use Rattle.register.specs.Answers.{Request, rise, Files, Joins, with_struck, Answered, filed, file_refused, joined, join_refused, struck, strike_refused, shown, read_refused}
 use Rattle.register.specs.Histories.{Exchange, History, no_more, one_more, Origin, filed_for, joined_of, nowhere, routines, origin_at, filed_origin, origins_after, origins_from}
 use Rattle.register.specs.Promise.{Every, RiseBounded}
-use Rattle.register.proofs.SideBySide.{Paired, paired_all, paired_more, paired_at, paired_set}
+use Rattle.register.proofs.Tests.{unless_passed}
+use Rattle.register.proofs.SideBySide.{zip_weaker, zip_at, zip_set}
 use Rattle.register.proofs.Routines.{every_append, all_fine, fine_append, Told}
 use Rattle.register.proofs.FileWidths.{names_within}
-
--- a test that was passed, since nothing is refused
-test_passed : (b : Bool) (e : Refusal) (o : Option Refusal) → unless b e o ≡ None → b ≡ true
-test_passed true e o h = refl
-test_passed false e o h = let z : ◌≡◌ {A = ℕ} 0 1 = cc in absurd (omega arith)
 
 truth_of : {V : Type 0} (K : KindOf V) (b : Bool) → K.truth (yes_or_no K b) ≡ b
 truth_of K true = K.yes_true
@@ -45,7 +43,7 @@ module _ {V : Type 0} {S : Type 0} (K : KindOf V) (M : Meaning V S) where
 
   pub record Kept (v : ℕ) (h : Held S) (os : List Origin) : Type 0 where
     pub same_v : h.v ≡ v
-    pub good : Paired (Good v h.store) h.entries os
+    pub good : AllZip (Good v h.store) h.entries os
 
   good_grown : (v : ℕ) (s : S) (k : ℕ) (t : S) → Grown M s k t → (e : Entry) (o : Origin) → Good v s e o → Good v t e o
   good_grown v s k t g e o h = record {
@@ -69,9 +67,9 @@ module _ {V : Type 0} {S : Type 0} (K : KindOf V) (M : Meaning V S) where
       → Kept v after (os ++ (o ∷ []))
   one_entry_more v before after k os e o same more g h new = record {
     same_v = same ∙ h.same_v;
-    good = subst (λ (es : List Entry). Paired (Good v after.store) es (os ++ (o ∷ []))) (sym more)
-        (paired_more (Good v after.store) before.entries os e o
-        (paired_all (Good v before.store) (Good v after.store) (good_grown v before.store k after.store g) before.entries os
+    good = subst (λ (es : List Entry). AllZip (Good v after.store) es (os ++ (o ∷ []))) (sym more)
+        (all_zipped_more (Good v after.store) before.entries os e o
+        (zip_weaker (Good v before.store) (Good v after.store) (good_grown v before.store k after.store g) before.entries os
         h.good)
         new);
   }
@@ -125,9 +123,9 @@ module _ {V : Type 0} {S : Type 0} (K : KindOf V) (M : Meaning V S) (steps : S �
       → Joins K M steps before j k n after → Kept K M v before os → Kept K M v after (os ++ (joined_of (origin_at os j) (origin_at os k) ∷ []))
   kept_joined before after j k n v os ok f h =
       let es = before.entries in
-      let both = and_parts (there es j) (there es k) (test_passed _ _ _ ok) in
+      let both = and_parts (there es j) (there es k) (unless_passed _ _ _ ok) in
       let at = λ (i : ℕ) (l : there es i ≡ true).
-      paired_at (Good K M v before.store) es os i (entry node_no 0 0) nowhere h.good (ltb-true i (length es) l) in
+      zip_at (Good K M v before.store) es os i (entry node_no 0 0) nowhere h.good (ltb-true i (length es) l) in
       one_entry_more K M v before after 1 os _ _ f.same_v f.entries (sound _ _ _ _ f.made).grown h
       (good_joined v before.store after.store (entry_at es j) (entry_at es k) (origin_at os j) (origin_at os k) n _ _ f.made
       (at j both.0) (at k both.1))
@@ -135,12 +133,12 @@ module _ {V : Type 0} {S : Type 0} (K : KindOf V) (M : Meaning V S) (steps : S �
   kept_struck : (h : Held S) (j : ℕ) (v : ℕ) (os : List Origin) → Kept K M v h os → Kept K M v (with_struck K M steps h j) os
   kept_struck h j v os k = record {
     same_v = k.same_v;
-    good = paired_set (Good K M v h.store) h.entries os j (entry node_no 0 0) (struck_out (entry_at h.entries j))
+    good = zip_set (Good K M v h.store) h.entries os j (entry node_no 0 0) (struck_out (entry_at h.entries j))
         (good_struck K M v h.store (entry_at h.entries j)) k.good;
   }
 
   -- one call keeps it
-  kept_after : {before : Held S} {q : Request} {x : Answer} {after : Held S} (v : ℕ) (os : List Origin) → Answered K M steps before q x after
+  kept_after : {before : Held S} {q : Request} {x : Result Answer Refusal} {after : Held S} (v : ℕ) (os : List Origin) → Answered K M steps before q x after
       → Kept K M v before os → Kept K M v after (origins_after v K.ops os q x)
   kept_after v os (filed {before} {after} {cs} {ts} {c} {filled} {n} is ok f) h =
       kept_filed before after cs ts c filled n is (names_within K M steps before cs ts c is ok) f v os h

@@ -1,8 +1,9 @@
+pub mod Tests
 pub mod SideBySide
 pub mod Routines
 pub mod FileWidths
 pub mod Keeping
 pub mod Replaying
 pub mod Promised
-pub mod Listings
+pub mod Calls
 pub mod Filing

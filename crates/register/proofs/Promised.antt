@@ -1,18 +1,19 @@
 -- The promise of the register is kept, and the nodes of its entries are always in use.
-use Rattle.std.proofs.Common.{◌≡◌, ℕ, ◌<◌, Bool, true, false, ◌&&◌, ltb, List, [], ◌++◌, length, Some, None, Option, sym, refl, ◌∙◌}
+use Rattle.std.proofs.Common.{◌≡◌, ℕ, ◌<◌, true, ◌&&◌, ltb, List, [], ◌++◌, length, Some, None, sym, refl, ◌∙◌}
 use Rattle.std.proofs.lemmas.Bool.{and_from, and_parts, ltb-true, lt-ltb, cond-true}
+use Rattle.std.proofs.lemmas.Slice.Zip.{AllZip-long}
 use Rattle.kinds.specs.Kind.{KindOf}
 use Rattle.kinds.specs.declared.numbered.Node.{Node}
-use Rattle.kinds.specs.declared.refusals.Refusal.{Refusal}
-use Rattle.kinds.specs.declared.refusals.Refusal.TheVariants.{Places, Entries, NotInUse, Struck}
+use Rattle.kinds.specs.declared.refusals.Refusal.TheVariants.{Places, NotInUse}
 use Rattle.passive.specs.declared.rows.PassiveTermRow.{PassiveTermRow}
 use Rattle.passive.specs.declared.rows.PassiveRow.{PassiveRow}
-use Rattle.formula.specs.Store.{Making, make_and, Meaning, unless, refused_by, free_place, Lawful, Makes, node_no}
+use Rattle.formula.specs.Store.{Making, make_and, Meaning, refused_by, free_place, Lawful, Makes, node_no}
 use Rattle.register.specs.declared.entries.Entry.{Entry}
 use Rattle.register.specs.Held.{Held, most_entries, entry, entry_at, there, standing}
 use Rattle.register.specs.Histories.{Exchange, new_held, History, Origin, nowhere, routines, origin_at, origins}
 use Rattle.register.specs.Promise.{Faithful, PromiseKept, GoesOn}
-use Rattle.register.proofs.SideBySide.{paired_length, paired_at}
+use Rattle.register.proofs.Tests.{tests_silent}
+use Rattle.register.proofs.SideBySide.{zip_at}
 use Rattle.register.proofs.Routines.{fine_safe, safe_fine, not_fine_wrong}
 use Rattle.register.proofs.Keeping.{Good, Kept, kept_through}
 use Rattle.register.proofs.Replaying.{history_then}
@@ -37,7 +38,7 @@ module _ {V : Type 0} {S : Type 0} (K : KindOf V) (M : Meaning V S) (steps : S �
   kept = kept_through K M steps lawful sound v [] past (record { same_v = refl; good = tt })
 
   good_at : (i : ℕ) → i < length h.entries → Good K M v h.store (entry_at h.entries i) (origin_at (origins v K.ops xs) i)
-  good_at i l = paired_at (Good K M v h.store) h.entries (origins v K.ops xs) i (entry node_no 0 0) nowhere kept.good l
+  good_at i l = zip_at (Good K M v h.store) h.entries (origins v K.ops xs) i (entry node_no 0 0) nowhere kept.good l
 
   -- the node of every entry is in use
   pub entry_used : (j : ℕ) → there h.entries j ≡ true → M.in_use h.store (entry_at h.entries j).node ≡ true
@@ -50,24 +51,15 @@ module _ {V : Type 0} {S : Type 0} (K : KindOf V) (M : Meaning V S) (steps : S �
       cond-true _ (free_place M h.store) (Some NotInUse) (and_from _ _ (entry_used j lj) (entry_used k lk))
       ∙ cond-true _ None (Some Places) (lt-ltb (M.count h.store) (M.capacity h.store) free)
 
--- one test after another, where what comes next says nothing
-silent_last : (a b c d : Bool) (next : Option Refusal) → (a ≡ true → c ≡ true → next ≡ None)
-    → unless a NotInUse (unless b Struck (unless c Places (unless d Entries next))) ≡ unless a NotInUse (unless b Struck (unless c Places (unless d Entries None)))
-silent_last false b c d next h = refl
-silent_last true false c d next h = refl
-silent_last true true false d next h = refl
-silent_last true true true false next h = refl
-silent_last true true true true next h = h refl refl
-
 pub promise_kept : {V : Type 0} {S : Type 0} (K : KindOf V) (M : Meaning V S) (steps : S → Making → Node → S → Type 0)
     (lawful : (s : S) → Lawful K M s) (sound : (s : S) (c : Making) (n : Node) (t : S) → steps s c n t → Makes K M s c n t)
     → PromiseKept K M steps
 promise_kept K M steps lawful sound v s E T xs h past = record {
   same_v = (kept K M steps lawful sound v s E T xs h past).same_v;
-  as_many = paired_length (Good K M v h.store) h.entries (origins v K.ops xs) (kept K M steps lawful sound v s E T xs h past).good;
+  as_many = sym (AllZip-long (Good K M v h.store) h.entries (origins v K.ops xs) (kept K M steps lawful sound v s E T xs h past).good);
   each = λ i l. faithful K M v h.store (entry_at h.entries i) (origin_at (origins v K.ops xs) i) (lawful h.store)
       (good_at K M steps lawful sound v s E T xs h past i l);
-  joins_tested = λ j k. silent_last (there h.entries j && there h.entries k) (standing h.entries j && standing h.entries k)
+  joins_tested = λ j k. tests_silent (there h.entries j && there h.entries k) (standing h.entries j && standing h.entries k)
       (ltb (M.count h.store) (M.capacity h.store)) (ltb (length h.entries) most_entries)
       (refused_by K M h.store (make_and (entry_at h.entries j).node (entry_at h.entries k).node))
       (λ both free. let ends = and_parts (there h.entries j) (there h.entries k) both in

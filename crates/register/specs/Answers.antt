@@ -20,7 +20,7 @@ use Rattle.register.specs.declared.entries.Entry.{Entry}
 use Rattle.register.specs.declared.entries.Filing.{Filing}
 use Rattle.register.specs.declared.entries.Reading.{Reading}
 use Rattle.register.specs.declared.entries.Answer.{Answer}
-use Rattle.register.specs.declared.entries.Answer.TheVariants.{Filed, Joined, Marked, Shown, Refused}
+use Rattle.register.specs.declared.entries.Answer.TheVariants.{Filed, Joined, Marked, Shown}
 use Rattle.register.specs.Held.{most_entries, Held, entry, entry_at, struck_out, entry_refusal, join_refusal}
 
 -- what a register is asked; a filing brings the rows of its routine
@@ -77,17 +77,17 @@ module _ {V : Type 0} {S : Type 0} (K : KindOf V) (M : Meaning V S) (steps : S �
   with_struck h j = record { v = h.v; store = h.store; entries = slice_set h.entries j (struck_out (entry_at h.entries j)); rows = h.rows; terms = h.terms }
 
   -- a call, its answer, and what is held before and after it; a refused call, and a read, changes nothing
-  pub data Answered : Held S → Request → Answer → Held S → Type 0 where
+  pub data Answered : Held S → Request → Result Answer Refusal → Held S → Type 0 where
     filed : {before after : Held S} {cs : List CommandRow} {ts : List TermRow} {c : Command} {filled : List PassiveRow} {n : Node}
         → decode before.v K.ops cs ts ≡ Ok c → file_verdict before cs ts ≡ Ok (form_measures before.v c) → Files before c filled n after
-        → Answered before (file_request cs ts) (Filed (filing before.v c (length before.entries) n (rise before.store after.store))) after
+        → Answered before (file_request cs ts) (Ok (Filed (filing before.v c (length before.entries) n (rise before.store after.store)))) after
     file_refused : {h : Held S} {cs : List CommandRow} {ts : List TermRow} {e : Refusal}
-        → file_verdict h cs ts ≡ Err e → Answered h (file_request cs ts) (Refused e) h
+        → file_verdict h cs ts ≡ Err e → Answered h (file_request cs ts) (Err e) h
     joined : {before after : Held S} {j k : ℕ} {n : Node}
         → join_refusal K M before j k ≡ None → Joins before j k n after
-        → Answered before (join_request j k) (Joined (record { entry = length before.entries; node = n })) after
-    join_refused : {h : Held S} {j k : ℕ} {e : Refusal} → join_refusal K M h j k ≡ Some e → Answered h (join_request j k) (Refused e) h
-    struck : {h : Held S} {j : ℕ} → entry_refusal h.entries j ≡ None → Answered h (strike_request j) Marked (with_struck h j)
-    strike_refused : {h : Held S} {j : ℕ} {e : Refusal} → entry_refusal h.entries j ≡ Some e → Answered h (strike_request j) (Refused e) h
-    shown : {h : Held S} {j : ℕ} → entry_refusal h.entries j ≡ None → Answered h (read_request j) (Shown (reading (entry_at h.entries j))) h
-    read_refused : {h : Held S} {j : ℕ} {e : Refusal} → entry_refusal h.entries j ≡ Some e → Answered h (read_request j) (Refused e) h
+        → Answered before (join_request j k) (Ok (Joined (record { entry = length before.entries; node = n }))) after
+    join_refused : {h : Held S} {j k : ℕ} {e : Refusal} → join_refusal K M h j k ≡ Some e → Answered h (join_request j k) (Err e) h
+    struck : {h : Held S} {j : ℕ} → entry_refusal h.entries j ≡ None → Answered h (strike_request j) (Ok Marked) (with_struck h j)
+    strike_refused : {h : Held S} {j : ℕ} {e : Refusal} → entry_refusal h.entries j ≡ Some e → Answered h (strike_request j) (Err e) h
+    shown : {h : Held S} {j : ℕ} → entry_refusal h.entries j ≡ None → Answered h (read_request j) (Ok (Shown (reading (entry_at h.entries j)))) h
+    read_refused : {h : Held S} {j : ℕ} {e : Refusal} → entry_refusal h.entries j ≡ Some e → Answered h (read_request j) (Err e) h

@@ -1,5 +1,5 @@
 -- What a register holds, and when a call on its entries is refused.
-use Rattle.std.specs.Prelude.{ℕ, Bool, true, false, not, ◌&&◌, List, length, None, Option, nat_lt, slice_index_or}
+use Rattle.std.specs.Prelude.{ℕ, Bool, true, false, not, ◌&&◌, List, length, Some, None, Ok, Err, Option, Result, nat_lt, slice_index_or}
 use Rattle.kinds.specs.Kind.{KindOf}
 use Rattle.kinds.specs.declared.numbered.Node.{Node}
 use Rattle.kinds.specs.declared.refusals.Refusal.{Refusal}
@@ -41,6 +41,11 @@ standing es j = not (entry_at es j).struck
 -- whether an entry can be read or struck
 abbrev pub entry_refusal : List Entry → ℕ → Option Refusal
 entry_refusal es j = unless (there es j) NotInUse (unless (standing es j) Struck None)
+
+-- the answer, unless it is refused
+abbrev pub unless_refused : {A : Type 0} → Option Refusal → A → Result A Refusal
+unless_refused None x = Ok x
+unless_refused (Some e) x = Err e
 
 module _ {V : Type 0} {S : Type 0} (M : Meaning V S) where
   -- whether two entries can be joined, each test for both: then what comes next decides

@@ -9,14 +9,14 @@ use Rattle.passive.specs.declared.rows.PassiveTermRow.{PassiveTermRow}
 use Rattle.passive.specs.declared.rows.PassiveRow.{PassiveRow}
 use Rattle.formula.specs.Store.{Making, Meaning}
 use Rattle.register.specs.declared.entries.Answer.{Answer}
-use Rattle.register.specs.declared.entries.Answer.TheVariants.{Filed, Joined, Marked, Shown, Refused}
+use Rattle.register.specs.declared.entries.Answer.TheVariants.{Filed, Joined, Marked, Shown}
 use Rattle.register.specs.Held.{Held}
 use Rattle.register.specs.Answers.{Request, file_request, join_request, strike_request, read_request, Answered}
 
 -- a request with its answer
 pub record Exchange : Type 0 where
   pub request : Request
-  pub answer : Answer
+  pub answer : Result Answer Refusal
 
 -- a new register has no entries
 abbrev pub new_held : {S : Type 0} → ℕ → S → List PassiveRow → List PassiveTermRow → Held S
@@ -49,17 +49,17 @@ filed_origin (Ok c) = filed_for c
 filed_origin (Err e) = nowhere
 
 -- the origins of the entries after one more exchange: an accepted filing or join adds one
-abbrev pub origins_after : ℕ → ℕ → List Origin → Request → Answer → List Origin
-origins_after v ops os (file_request cs ts) (Filed f) = os ++ (filed_origin (decode v ops cs ts) ∷ [])
-origins_after v ops os (file_request cs ts) (Joined x) = os
-origins_after v ops os (file_request cs ts) Marked = os
-origins_after v ops os (file_request cs ts) (Shown x) = os
-origins_after v ops os (file_request cs ts) (Refused e) = os
-origins_after v ops os (join_request j k) (Joined x) = os ++ (joined_of (origin_at os j) (origin_at os k) ∷ [])
-origins_after v ops os (join_request j k) (Filed f) = os
-origins_after v ops os (join_request j k) Marked = os
-origins_after v ops os (join_request j k) (Shown x) = os
-origins_after v ops os (join_request j k) (Refused e) = os
+abbrev pub origins_after : ℕ → ℕ → List Origin → Request → Result Answer Refusal → List Origin
+origins_after v ops os (file_request cs ts) (Ok (Filed f)) = os ++ (filed_origin (decode v ops cs ts) ∷ [])
+origins_after v ops os (file_request cs ts) (Ok (Joined x)) = os
+origins_after v ops os (file_request cs ts) (Ok Marked) = os
+origins_after v ops os (file_request cs ts) (Ok (Shown x)) = os
+origins_after v ops os (file_request cs ts) (Err e) = os
+origins_after v ops os (join_request j k) (Ok (Joined x)) = os ++ (joined_of (origin_at os j) (origin_at os k) ∷ [])
+origins_after v ops os (join_request j k) (Ok (Filed f)) = os
+origins_after v ops os (join_request j k) (Ok Marked) = os
+origins_after v ops os (join_request j k) (Ok (Shown x)) = os
+origins_after v ops os (join_request j k) (Err e) = os
 origins_after v ops os (strike_request j) x = os
 origins_after v ops os (read_request j) x = os
 

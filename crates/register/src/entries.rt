@@ -1,7 +1,7 @@
 // What a register holds, what it is asked and what it answers.
 use kinds::numbered::Node;
-use kinds::refusals::Refusal;
 use routine::rows::{CommandRow, TermRow};
+use std::fmt;
 
 // A condition: its node, how many names it speaks of, how far the store's count rose in its making, and whether it is struck.
 #[derive(Clone, Copy, Debug, PartialEq, Eq)]
@@ -10,6 +10,16 @@ pub struct Entry {
     pub names: u32,
     pub rise: u32,
     pub struck: bool,
+}
+
+impl Entry {
+    // An entry that is yet to be made.
+    pub const BLANK: Entry = Entry {
+        node: Node(0),
+        names: 0,
+        rise: 0,
+        struck: false,
+    };
 }
 
 // A request: a routine to file, two entries to join, an entry to strike or to read.
@@ -47,11 +57,66 @@ pub struct Reading {
     pub rise: u32,
 }
 
+// What a request that is not refused answers.
 #[derive(Clone, Copy, Debug, PartialEq, Eq)]
 pub enum Answer {
     Filed(Filing),
     Joined(Joining),
     Marked,
     Shown(Reading),
-    Refused(Refusal),
+}
+
+impl fmt::Display for Request<'_> {
+    fn fmt<W: fmt::Write>(&self, f: &mut fmt::Formatter<W>) -> fmt::Result {
+        match self {
+            Request::File(commands, _) => {
+                write!(f, "file the routine of {} rows", commands.len())
+            }
+            Request::Join(j, k) => write!(f, "join {j} and {k}"),
+            Request::Strike(j) => write!(f, "strike {j}"),
+            Request::Read(j) => write!(f, "read {j}"),
+        }
+    }
+}
+
+impl fmt::Display for Filing {
+    fn fmt<W: fmt::Write>(&self, f: &mut fmt::Formatter<W>) -> fmt::Result {
+        let Filing {
+            entry,
+            node,
+            names,
+            rows,
+            terms,
+            rise,
+        } = self;
+        write!(
+            f,
+            "entry {entry}, {node}, {names} names, {rows} rows, {terms} term rows, nodes made: {rise}"
+        )
+    }
+}
+
+impl fmt::Display for Joining {
+    fn fmt<W: fmt::Write>(&self, f: &mut fmt::Formatter<W>) -> fmt::Result {
+        let Joining { entry, node } = self;
+        write!(f, "entry {entry}, {node}")
+    }
+}
+
+impl fmt::Display for Reading {
+    fn fmt<W: fmt::Write>(&self, f: &mut fmt::Formatter<W>) -> fmt::Result {
+        let Reading { node, names, rise } = self;
+        write!(f, "{node}, {names} names, nodes made: {rise}")
+    }
+}
+
+impl fmt::Display for Answer {
+    fn fmt<W: fmt::Write>(&self, f: &mut fmt::Formatter<W>) -> fmt::Result {
+        match self {
+            Answer::Filed(filing) => write!(f, "{filing}"),
+            Answer::Joined(joining) => write!(f, "{joining}"),
+            Answer::Marked => write!(f, "struck"),
+            Answer::Shown(reading) => write!(f, "{reading}"),
+        }
+    }
 }

@@ -2,8 +2,9 @@
 
 #![tactic(auto)]
 
-ghost use Rattle.std.specs.Prelude.{◌≡◌};
+ghost use Rattle.std.specs.Prelude.{◌≡◌, IfOk};
 ghost use Rattle.routine.specs.Decoding.{decode, verdict};
+ghost use Rattle.walkthrough.specs.Made.{MakesWithRows};
 
 mod text;
 
@@ -13,7 +14,6 @@ use formula::evaluators::Evaluator;
 use formula::stores::Store;
 use formula::tables::{NodeRow, TableStore};
 use kinds::kind::Kind;
-use kinds::numbered::{Name, Node};
 use kinds::numbers::Number;
 use kinds::refusals::Refusal;
 use passify::calls::{FormMeasures, measure, passify};
@@ -24,15 +24,29 @@ use register::registers::replays::replay;
 use routine::checks::check;
 use routine::rows::{CommandRow, TermRow};
 use samples::{Sample, make_sample};
+use std::fmt;
 
-// Prints what the check says.
-fn report(rt: &HostRuntime, what: &str, answer: Result<(), Refusal>) -> anyhow::Result<()> {
+// A routine over v0 and v1, with what its passive form takes.
+#[derive(Clone, Copy)]
+struct Routine<'a> {
+    commands: &'a [CommandRow],
+    terms: &'a [TermRow],
+    form: FormMeasures,
+}
+
+fn refused(refusal: Refusal) -> anyhow::Error {
+    anyhow!("the routine was {refusal}")
+}
+
+// Prints what was asked and what was answered.
+fn report<W: fmt::Display + Drop, A: fmt::Display + Drop>(
+    rt: &HostRuntime,
+    what: W,
+    answer: Result<A, Refusal>,
+) -> anyhow::Result<()> {
     match answer {
-        Ok(()) => println!(rt; "{what}: accepted")?,
-        Err(refusal) => {
-            let number = refusal.number();
-            println!(rt; "{what}: refused with {number}")?;
-        }
+        Ok(answer) => println!(rt; "{what}: {answer}")?,
+        Err(refusal) => println!(rt; "{what}: {refusal}")?,
     }
     Ok(())
 }
@@ -43,173 +57,138 @@ fn check_numbers(v: u32, commands: &[CommandRow], terms: &[TermRow]) -> Result<(
     check::<Number>(v, commands, terms)
 }
 
-// One damaged copy for each refusal of the check.
-fn show_damaged(rt: &HostRuntime) -> anyhow::Result<()> {
-    let Sample { commands, terms } = make_sample();
-    report(rt, "33 variables", check_numbers(33, &commands, &terms))?;
-    let mut damaged = commands;
-    damaged[3].tag = 9;
-    report(rt, "row 3 with tag 9", check_numbers(2, &damaged, &terms))?;
-    damaged = commands;
-    damaged[1].target = 2;
-    report(
-        rt,
-        "row 1 assigning to v2",
-        check_numbers(2, &damaged, &terms),
-    )?;
-    damaged = commands;
-    damaged[13].count = 4;
-    report(
-        rt,
-        "row 13 with its term cut short",
-        check_numbers(2, &damaged, &terms),
-    )?;
-    damaged = commands;
-    damaged[14].left = 11;
-    report(
-        rt,
-        "row 14 with its left part at row 11",
-        check_numbers(2, &damaged, &terms),
-    )?;
-    report(
-        rt,
-        "the last row left out",
-        check_numbers(2, &commands[0..14], &terms),
-    )
-}
-
-// The passive form, in tables of exactly the length that was measured.
-fn show_passive_form(
+// Prints what the check says.
+fn report_check(
     rt: &HostRuntime,
+    what: &str,
+    v: u32,
     commands: &[CommandRow],
     terms: &[TermRow],
 ) -> anyhow::Result<()> {
-    let Ok(form) = measure::<Number>(2, commands, terms) else {
-        return Err(anyhow!("the routine was refused"));
-    };
+    report(
+        rt,
+        what,
+        check_numbers(v, commands, terms).map(|()| "accepted"),
+    )
+}
+
+// One damaged copy for each refusal of the check.
+fn show_damaged(rt: &HostRuntime) -> anyhow::Result<()> {
+    let Sample { commands, terms } = make_sample();
+    report_check(rt, "33 variables", 33, &commands, &terms)?;
+    let mut damaged = commands;
+    damaged[3].tag = 9;
+    report_check(rt, "row 3 with tag 9", 2, &damaged, &terms)?;
+    damaged = commands;
+    damaged[1].target = 2;
+    report_check(rt, "row 1 assigning to v2", 2, &damaged, &terms)?;
+    damaged = commands;
+    damaged[13].count = 4;
+    report_check(rt, "row 13 with its term cut short", 2, &damaged, &terms)?;
+    damaged = commands;
+    damaged[14].left = 11;
+    report_check(
+        rt,
+        "row 14 with its left part at row 11",
+        2,
+        &damaged,
+        &terms,
+    )?;
+    report_check(rt, "the last row left out", 2, &commands[0..14], &terms)
+}
+
+// The passive form, in tables of exactly the length that was measured.
+fn show_passive_form(rt: &HostRuntime, routine: Routine<'_>) -> anyhow::Result<()> {
     let FormMeasures {
         names,
         rows,
-        terms: places,
+        terms,
         nodes,
-    } = form;
+    } = routine.form;
     println!(rt;
-        "It takes {names} names, {rows} rows, {places} term rows; its condition will take {nodes} nodes."
+        "It takes {names} names, {rows} rows, {terms} term rows; its condition will take {nodes} nodes."
     )?;
     let mut passive_rows = vec![in rt.alloc(); PassiveRow::BLANK; rows as usize]?;
-    let mut passive_terms = vec![in rt.alloc(); PassiveTermRow::BLANK; places as usize]?;
-    match passify::<Number>(
+    let mut passive_terms = vec![in rt.alloc(); PassiveTermRow::BLANK; terms as usize]?;
+    passify::<Number>(
         2,
-        commands,
-        terms,
+        routine.commands,
+        routine.terms,
         passive_rows.as_mut_slice(),
         passive_terms.as_mut_slice(),
-    ) {
-        Ok(_) => text::print_passive_form(rt, passive_rows.as_slice(), passive_terms.as_slice()),
-        Err(_) => Err(anyhow!("the routine was refused")),
-    }
+    )
+    .map_err(refused)?;
+    text::print_passive_form(rt, passive_rows.as_slice(), passive_terms.as_slice())
 }
 
 // The condition in any store, with work tables of these lengths; the rows of its passive form, with their nodes, are answered too.
 fn condition_in<S: Store>(
     rt: &HostRuntime,
     store: &mut S,
-    form: FormMeasures,
-    commands: &[CommandRow],
-    terms: &[TermRow],
-) -> anyhow::Result<(Condition, Vec<PassiveRow>)> {
-    let mut rows = vec![in rt.alloc(); PassiveRow::BLANK; form.rows as usize]?;
-    let mut out = vec![in rt.alloc(); PassiveTermRow::BLANK; form.terms as usize]?;
-    match make_condition(
+    routine: Routine<'_>,
+) -> anyhow::Result<(Condition, Vec<PassiveRow>)>
+    ensures { IfOk result (λ made. MakesWithRows S.Value.kind S.meaning S.steps 2 (decode 2 S.Value.kind.ops routine.entry.commands.now routine.entry.terms.now) store.old made.0 store.new made.1.items) }
+{
+    let mut rows = vec![in rt.alloc(); PassiveRow::BLANK; routine.form.rows as usize]?;
+    let mut out = vec![in rt.alloc(); PassiveTermRow::BLANK; routine.form.terms as usize]?;
+    let made = make_condition(
         store,
         2,
-        commands,
-        terms,
+        routine.commands,
+        routine.terms,
         rows.as_mut_slice(),
         out.as_mut_slice(),
-    ) {
-        Ok(made) => Ok((made, rows)),
-        Err(_) => Err(anyhow!("the condition was refused")),
-    }
+    )
+    .map_err(refused)?;
+    Ok((made, rows))
 }
 
 // The condition in a table store, with exactly the nodes that were measured.
-fn show_nodes(
-    rt: &HostRuntime,
-    form: FormMeasures,
-    commands: &[CommandRow],
-    terms: &[TermRow],
-) -> anyhow::Result<()> {
-    let nodes = vec![in rt.alloc(); NodeRow::BLANK; form.nodes as usize]?;
-    let mut store: TableStore<Number> = TableStore::new(nodes, form.names);
-    let (made, rows) = condition_in(rt, &mut store, form, commands, terms)?;
-    let Condition { node, rise, .. } = made;
-    let number = node.0;
-    println!(rt; "It made {rise} nodes, from 2 on; the condition is node {number}.")?;
+fn show_nodes(rt: &HostRuntime, routine: Routine<'_>) -> anyhow::Result<()> {
+    let nodes = vec![in rt.alloc(); NodeRow::BLANK; routine.form.nodes as usize]?;
+    let mut store: TableStore<Number> = TableStore::new(nodes, routine.form.names);
+    let (Condition { node, rise, .. }, rows) = condition_in(rt, &mut store, routine)?;
+    println!(rt; "It made {rise} nodes, from 2 on; the condition is {node}.")?;
     println!(rt; "N, X and W of a row say whether it may end normally, raised or wrong.")?;
     text::print_row_nodes(rt, &store, rows.as_slice())?;
     text::print_node(rt, &store, rows.as_slice(), "The condition", node)
 }
 
 // Whether the condition is true under one assignment.
-fn truth_under(
-    rt: &HostRuntime,
-    form: FormMeasures,
-    commands: &[CommandRow],
-    terms: &[TermRow],
-    assignment: &[i32],
-) -> anyhow::Result<bool> {
-    let mut values: Vec<Number> = Vec::new(rt.alloc());
-    for value in assignment {
-        values.push(Number(*value))?;
-    }
-    for _ in 0..form.nodes {
+fn truth_under(rt: &HostRuntime, routine: Routine<'_>, assignment: &[i32]) -> anyhow::Result<bool> {
+    let mut values: Vec<Number> = assignment
+        .iter()
+        .map(|value| Number(*value))
+        .collect(rt.alloc())?;
+    for _ in 0..routine.form.nodes {
         values.push(Number(0))?;
     }
-    let mut store: Evaluator<Number> = Evaluator::new(values, form.names);
-    let (made, _) = condition_in(rt, &mut store, form, commands, terms)?;
-    match store.value(made.node) {
-        Ok(value) => Ok(value.truth()),
-        Err(_) => Err(anyhow!("the condition has no value")),
-    }
+    let mut store: Evaluator<Number> = Evaluator::new(values, routine.form.names);
+    let (made, _) = condition_in(rt, &mut store, routine)?;
+    let value = store.value(made.node).map_err(refused)?;
+    Ok(value.truth())
 }
 
-fn show_truth(
-    rt: &HostRuntime,
-    form: FormMeasures,
-    commands: &[CommandRow],
-    terms: &[TermRow],
-    assignment: &[i32],
-) -> anyhow::Result<()> {
+fn show_truth(rt: &HostRuntime, routine: Routine<'_>, assignment: &[i32]) -> anyhow::Result<()> {
     print!(rt; "Under ")?;
     for (i, value) in assignment.iter().enumerate() {
         print!(rt; "n{i} = {value}, ")?;
     }
-    if truth_under(rt, form, commands, terms, assignment)? {
-        println!(rt;
-            "the condition is true: no run that starts with v0 = n0 and v1 = n1 ends wrong along this assignment."
-        )?;
+    let said = if truth_under(rt, routine, assignment)? {
+        "true: no run that starts with v0 = n0 and v1 = n1 ends wrong along this assignment."
     } else {
-        println!(rt;
-            "the condition is false: a run that starts with v0 = n0 and v1 = n1 ends wrong."
-        )?;
-    }
+        "false: a run that starts with v0 = n0 and v1 = n1 ends wrong."
+    };
+    println!(rt; "the condition is {said}")?;
     Ok(())
 }
 
-fn show_condition(
-    rt: &HostRuntime,
-    commands: &[CommandRow],
-    terms: &[TermRow],
-) -> anyhow::Result<()> {
-    let Ok(form) = measure::<Number>(2, commands, terms) else {
-        return Err(anyhow!("the routine was refused"));
-    };
-    show_nodes(rt, form, commands, terms)?;
+fn show_condition(rt: &HostRuntime, routine: Routine<'_>) -> anyhow::Result<()> {
+    show_nodes(rt, routine)?;
     println!(rt; "\nThe same condition worked out under two assignments:")?;
-    show_truth(rt, form, commands, terms, &[-5, 3, 5, 5, 2, 2])?;
+    show_truth(rt, routine, &[-5, 3, 5, 5, 2, 2])?;
     let least = i32::MIN;
-    show_truth(rt, form, commands, terms, &[least, 3, least, least, 2, 2])?;
+    show_truth(rt, routine, &[least, 3, least, least, 2, 2])?;
     println!(rt;
         "Minus the least number is no number of 32 bits: 0 - n0 wraps to n0 again, and the assertion 0 < n2 fails."
     )?;
@@ -221,19 +200,17 @@ fn show_entry(
     rt: &HostRuntime,
     register: &Register<TableStore<Number>>,
     request: Request<'_>,
-    answer: Answer,
+    answer: Result<Answer, Refusal>,
 ) -> anyhow::Result<()> {
     let entry = match answer {
-        Answer::Filed(filing) => filing.entry,
-        Answer::Joined(joining) => joining.entry,
+        Ok(Answer::Filed(filing)) => filing.entry,
+        Ok(Answer::Joined(joining)) => joining.entry,
         _ => return Ok(()),
     };
-    let Ok(reading) = register.read(entry) else {
-        return Ok(());
-    };
-    let number = reading.node.0;
-    let routines = text::routines_text(rt.alloc(), request)?;
-    println!(rt; "entry {entry}: node {number}, true where no run of {routines} ends wrong")?;
+    if let Ok(reading) = register.read(entry) {
+        let (node, routines) = (reading.node, text::Routines(request));
+        println!(rt; "entry {entry}: {node}, true where no run of {routines} ends wrong")?;
+    }
     Ok(())
 }
 
@@ -243,7 +220,7 @@ fn show_replay(rt: &HostRuntime, requests: &[Request<'_>]) -> anyhow::Result<()>
     let store: TableStore<Number> = TableStore::new(nodes, 6);
     let mut rows = vec![in rt.alloc(); PassiveRow::BLANK; 23]?;
     let mut terms = vec![in rt.alloc(); PassiveTermRow::BLANK; 34]?;
-    let mut answers = vec![in rt.alloc(); Answer::Marked; requests.len()]?;
+    let mut answers = vec![in rt.alloc(); Ok(Answer::Marked); requests.len()]?;
     let register = replay(
         store,
         2,
@@ -253,7 +230,7 @@ fn show_replay(rt: &HostRuntime, requests: &[Request<'_>]) -> anyhow::Result<()>
         answers.as_mut_slice(),
     );
     for (request, answer) in requests.iter().zip(answers.iter()) {
-        text::print_exchange(rt, *request, *answer)?;
+        report(rt, *request, *answer)?;
     }
     println!(rt;
         "\nWhat the entries that stand say of a start (true means: under all assignments that begin with it):"
@@ -299,7 +276,7 @@ fn show_routine(
     let rows = commands.len();
     println!(rt; "The routine: {rows} command rows over v0, a number, and v1, a counter.")?;
     text::print_routine(rt, commands, terms)?;
-    report(rt, "The check", check_numbers(2, commands, terms))
+    report_check(rt, "The check", 2, commands, terms)
 }
 
 fn run(rt: &HostRuntime) -> anyhow::Result<()> {
@@ -310,9 +287,14 @@ fn run(rt: &HostRuntime) -> anyhow::Result<()> {
     println!(rt;
         "\nIts passive form, with a name n0, n1, .. for each value that a variable takes:"
     )?;
-    show_passive_form(rt, &commands, &terms)?;
+    let routine = Routine {
+        commands: &commands,
+        terms: &terms,
+        form: measure::<Number>(2, &commands, &terms).map_err(refused)?,
+    };
+    show_passive_form(rt, routine)?;
     println!(rt; "\nIts condition, in a table store; node 0 is no and node 1 is yes:")?;
-    show_condition(rt, &commands, &terms)?;
+    show_condition(rt, routine)?;
     println!(rt;
         "\nA register over a new table store. Filed are the routine and, as a routine of its own, its first part, rows 0 to 6:"
     )?;

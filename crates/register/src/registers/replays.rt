@@ -8,6 +8,7 @@ ghost use Rattle.register.specs.Views.{held, request_of, exchange, exchanges};
 use crate::entries::{Answer, Request};
 use crate::registers::Register;
 use formula::stores::Store;
+use kinds::refusals::Refusal;
 use passive::rows::{PassiveRow, PassiveTermRow};
 
 impl<S: Store> Register<S> {
@@ -17,26 +18,16 @@ impl<S: Store> Register<S> {
         request: Request<'_>,
         rows: &mut [PassiveRow],
         terms: &mut [PassiveTermRow],
-    ) -> Answer
+    ) -> Result<Answer, Refusal>
         ensures { Answered S.Value.kind S.meaning S.steps (held self.old rows.old terms.old) (request_of request.entry) result (held self.new rows.new terms.new) }
     {
         match request {
-            Request::File(commands, items) => match self.file(commands, items, rows, terms) {
-                Ok(filing) => Answer::Filed(filing),
-                Err(refusal) => Answer::Refused(refusal),
-            },
-            Request::Join(j, k) => match self.join(j, k) {
-                Ok(joining) => Answer::Joined(joining),
-                Err(refusal) => Answer::Refused(refusal),
-            },
-            Request::Strike(j) => match self.strike(j) {
-                Ok(_) => Answer::Marked,
-                Err(refusal) => Answer::Refused(refusal),
-            },
-            Request::Read(j) => match self.read(j) {
-                Ok(reading) => Answer::Shown(reading),
-                Err(refusal) => Answer::Refused(refusal),
-            },
+            Request::File(commands, items) => {
+                self.file(commands, items, rows, terms).map(Answer::Filed)
+            }
+            Request::Join(j, k) => self.join(j, k).map(Answer::Joined),
+            Request::Strike(j) => self.strike(j).map(|()| Answer::Marked),
+            Request::Read(j) => self.read(j).map(Answer::Shown),
         }
     }
 
@@ -46,7 +37,7 @@ impl<S: Store> Register<S> {
         request: Request<'_>,
         rows: &mut [PassiveRow],
         terms: &mut [PassiveTermRow],
-    ) -> Answer
+    ) -> Result<Answer, Refusal>
         ensures answered { Answered S.Value.kind S.meaning S.steps (held self.old rows.old terms.old) (request_of request.entry) result (held self.new rows.new terms.new) }
         ensures promise { GoesOn S.Value.kind S.meaning S.steps (held self.old rows.old terms.old) (exchange (request.entry) result ∷ []) (held self.new rows.new terms.new) }
     {
@@ -59,19 +50,15 @@ impl<S: Store> Register<S> {
         requests: &[Request<'_>],
         rows: &mut [PassiveRow],
         terms: &mut [PassiveTermRow],
-        answers: &mut [Answer],
+        answers: &mut [Result<Answer, Refusal>],
     )
         ensures history { History S.Value.kind S.meaning S.steps (held self.old rows.old terms.old) (exchanges requests.now answers.new) (held self.new rows.new terms.new) }
         ensures promise { GoesOn S.Value.kind S.meaning S.steps (held self.old rows.old terms.old) (exchanges requests.now answers.new) (held self.new rows.new terms.new) }
         ensures rest { drop (length requests.now) answers.new ≡ drop (length requests.now) answers.old }
     {
-        let count = if requests.len() < answers.len() {
-            requests.len()
-        } else {
-            answers.len()
-        };
-        for i in 0..count {
-            answers[i] = self.perform(requests[i], rows, terms);
+        let count = requests.len().min(answers.len());
+        for (i, request) in requests[..count].iter().enumerate() {
+            answers[i] = self.perform(*request, rows, terms);
         }
     }
 }
@@ -83,7 +70,7 @@ pub fn replay<S: Store>(
     requests: &[Request<'_>],
     rows: &mut [PassiveRow],
     terms: &mut [PassiveTermRow],
-    answers: &mut [Answer],
+    answers: &mut [Result<Answer, Refusal>],
 ) -> Register<S>
     ensures history { History S.Value.kind S.meaning S.steps (new_held v store rows.old terms.old) (exchanges requests.now answers.new) (held result rows.new terms.new) }
     ensures promise { Promise S.Value.kind S.meaning v (held result rows.new terms.new) (origins v S.Value.kind.ops (exchanges requests.now answers.new)) }

@@ -1,33 +1,32 @@
-use Rattle.std.proofs.Common.{length, Err, sym, ap, ◌∙◌}
-use Rattle.std.proofs.lemmas.Result.{err_from_is_err_and}
+use Rattle.std.proofs.Common.{sym, ◌∙◌, rules}
 use Rattle.register.specs.Views.{held}
+use Rattle.register.proofs.Tests.{handed_on}
 use Rattle.register.proofs.Filing.{not_filed, not_made, no_entry, filed_by}
 use Rattle.register.proofs.registers.Register.file.Goals as goal
 
 pub returns-in_err-forecast : goal.returns-in_err-forecast
 returns-in_err-forecast g c =
-    let p = err_from_is_err_and c.from_residual.result c.from_residual.ensures.1 in
-    rw p.1
+    rw (handed_on _ _ c.from_residual.ensures.1)
     (not_filed g.S.Value.Kind.kind g.S.Store.meaning g.S.Store.steps (held c.args.self.now c.args.rows.now c.args.out.now)
-    c.args.commands.now c.args.terms.now p.0 (sym c.forecast.ensures ∙ (c.in_err-forecast.was ∙ ap Err (sym p.2))))
+    c.args.commands.now c.args.terms.now _ (sym c.forecast.ensures ∙ c.in_err-forecast.was))
 
-pub returns-then-entry-ge-MOST_ENTRIES : goal.returns-then-entry-ge-MOST_ENTRIES
-returns-then-entry-ge-MOST_ENTRIES g c =
+pub returns-then-is_full : goal.returns-then-is_full
+returns-then-is_full g c =
     no_entry g.S.Value.Kind.kind g.S.Store.meaning g.S.Store.steps (held c.args.self.now c.args.rows.now c.args.out.now)
     c.args.commands.now c.args.terms.now _ (sym c.forecast.ensures ∙ c.in_ok-forecast.was)
-    (rw (sym (ap length c.in_use-entry.ensures.listed)) c.if-entry-ge-MOST_ENTRIES.true)
+    (c.is_full.ensures.0 c.if-is_full.true)
 
-pub returns-in_err-made : goal.returns-in_err-made
-returns-in_err-made g c =
-    let p = err_from_is_err_and c.from_residual-in_err-made.result c.from_residual-in_err-made.ensures.1 in
-    rw p.1
+pub returns-in_err-node : goal.returns-in_err-node
+returns-in_err-node g c =
+    rw (handed_on _ _ c.from_residual-in_err-node.ensures.1)
     (not_made g.S.Value.Kind.kind g.S.Store.meaning g.S.Store.steps (held c.args.self.now c.args.rows.now c.args.out.now)
-    c.args.commands.now c.args.terms.now p.0 c.make_condition.new.store c.make_condition.new.rows
-    c.make_condition.new.out (rw p.2 c.in_err-made.ensures.made))
+    c.args.commands.now c.args.terms.now _ c.make_condition.new.store c.make_condition.new.rows c.make_condition.new.out
+    c.in_err-node.ensures.made)
 
 pub returns : goal.returns
 returns g c =
-    filed_by g.S.Value.Kind.kind g.S.Store.meaning g.S.Store.steps (held c.args.self.now c.args.rows.now c.args.out.now)
-    c.args.commands.now c.args.terms.now c.in_ok-made.made c.make_condition.new.store c.make_condition.new.rows
-    c.make_condition.new.out _ _ c.in_ok-made.ensures.made
-    (ap length c.in_use-entry.ensures.listed) c.if-entry-ge-MOST_ENTRIES.false c.push.ensures.listed
+    rw c.push-entry.ensures.number
+    (filed_by g.S.Value.Kind.kind g.S.Store.meaning g.S.Store.steps (held c.args.self.now c.args.rows.now c.args.out.now)
+    c.args.commands.now c.args.terms.now c.in_ok-node.field-0 c.make_condition.new.store c.make_condition.new.rows
+    c.make_condition.new.out _ c.in_ok-node.ensures.made (search rules)
+    c.push-entry.ensures.pushed)

@@ -1,16 +1,15 @@
-use Rattle.std.proofs.Common.{sym}
+use Rattle.std.proofs.Common.{sym, ◌∙◌}
 use Rattle.register.specs.Answers.{strike_refused}
 use Rattle.register.specs.Views.{held}
-use Rattle.register.proofs.Listings.{entry_there, struck_by}
+use Rattle.register.proofs.Tests.{refused_why, handed_on}
+use Rattle.register.proofs.Calls.{struck_by}
 use Rattle.register.proofs.registers.Register.strike.Goals as goal
 
-pub returns-in-Some : goal.returns-in-Some
-returns-in-Some g c E T = strike_refused (sym c.in-Some.ensures)
-
-pub mark-requires : goal.mark-requires
-mark-requires g c = record { there = entry_there c.args.self.now.entries c.args.j (sym c.in_default.ensures); few = c.args.self.now.few }
+pub returns-in_err-entry : goal.returns-in_err-entry
+returns-in_err-entry g c E T =
+    rw (handed_on _ _ c.from_residual.ensures.1) (strike_refused (refused_why _ _ _ (sym c.entry.ensures ∙ c.in_err-entry.was)))
 
 pub returns : goal.returns
 returns g c E T =
-    struck_by g.S.Value.Kind.kind g.S.Store.meaning g.S.Store.steps (held c.args.self.now E T) c.args.j _ (sym c.in_default.ensures)
-    c.mark.ensures.listed
+    struck_by g.S.Value.Kind.kind g.S.Store.meaning g.S.Store.steps (held c.args.self.now E T) c.args.j _ _ (sym c.entry.ensures ∙ c.in_ok-entry.was)
+    c.mark.ensures
