@@ -1,6 +1,7 @@
 // The rows of a routine, raw as callers pass them, and what they say.
 ghost use Rattle.std.specs.Prelude.{◌≡◌};
 ghost use Rattle.routine.specs.Rows.{tag_of, item};
+ghost use Rattle.routine.specs.Standing.{joint_tag};
 
 use kinds::numbered::Variable;
 use kinds::refusals::Refusal;
@@ -38,6 +39,19 @@ pub enum Joint {
     Sequence,
     Choice,
     Catch,
+}
+
+// The tag of a row that joins.
+impl From<Joint> for u32 {
+    ghost from_gives = { λ joint number. number ≡ joint_tag joint };
+
+    fn from(joint: Joint) -> u32 {
+        match joint {
+            Joint::Sequence => 6,
+            Joint::Choice => 7,
+            Joint::Catch => 8,
+        }
+    }
 }
 
 // What a command row is.

@@ -7,6 +7,7 @@ ghost use Rattle.worked.specs.Tabled.{Tabled};
 ghost use Rattle.worked.specs.Worked.{WorkedOut};
 
 use routine::rows::{CommandRow, TermRow};
+use routine::{command_row, term_row};
 
 const PLUS: u16 = 0;
 
@@ -15,38 +16,6 @@ const MINUS: u16 = 1;
 const LESS: u16 = 3;
 
 const EQUAL: u16 = 4;
-
-const ASSERT: u32 = 1;
-
-const ASSUME: u32 = 2;
-
-const ASSIGN: u32 = 3;
-
-const SKIP: u32 = 4;
-
-const RAISE: u32 = 5;
-
-const SEQUENCE: u32 = 6;
-
-const CHOICE: u32 = 7;
-
-const CATCH: u32 = 8;
-
-// A term row.
-macro_rules! item {
-    (literal $number:expr) => { TermRow { tag: 1, number: $number } };
-    (variable $number:expr) => { TermRow { tag: 2, number: $number } };
-    (operation $number:expr) => { TermRow { tag: 3, number: $number } };
-}
-
-// A command row: one that has a term, one that joins the two parts before it, or one that is its tag alone.
-macro_rules! row {
-    ($tag:ident $target:literal, term $from:literal + $count:literal) => {
-        CommandRow { tag: $tag, target: $target, from: $from, count: $count, left: 0 }
-    };
-    ($tag:ident, left $left:literal) => { CommandRow { tag: $tag, target: 0, from: 0, count: 0, left: $left } };
-    ($tag:ident) => { CommandRow { tag: $tag, target: 0, from: 0, count: 0, left: 0 } };
-}
 
 // A routine of v variables.
 #[derive(Clone, Copy)]
@@ -63,24 +32,24 @@ pub fn first() -> Routine
     Routine {
         v: 1,
         commands: &[
-            row!(ASSUME 0, term 0 + 3),
-            row!(ASSIGN 0, term 3 + 3),
-            row!(SEQUENCE, left 0),
-            row!(ASSERT 0, term 6 + 5),
-            row!(SEQUENCE, left 2),
+            command_row!(assume term 0 + 3),
+            command_row!(assign 0, term 3 + 3),
+            command_row!(sequence left 0),
+            command_row!(assert term 6 + 5),
+            command_row!(sequence left 2),
         ],
         terms: &[
-            item!(literal 0),
-            item!(variable 0),
-            item!(operation LESS),
-            item!(variable 0),
-            item!(literal 1),
-            item!(operation MINUS),
-            item!(variable 0),
-            item!(literal 0),
-            item!(operation LESS),
-            item!(literal 0),
-            item!(operation EQUAL),
+            term_row!(literal 0),
+            term_row!(variable 0),
+            term_row!(operation LESS),
+            term_row!(variable 0),
+            term_row!(literal 1),
+            term_row!(operation MINUS),
+            term_row!(variable 0),
+            term_row!(literal 0),
+            term_row!(operation LESS),
+            term_row!(literal 0),
+            term_row!(operation EQUAL),
         ],
     }
 }
@@ -92,19 +61,19 @@ pub fn second() -> Routine
     Routine {
         v: 1,
         commands: &[
-            row!(ASSIGN 0, term 0 + 3),
-            row!(ASSERT 0, term 3 + 5),
-            row!(SEQUENCE, left 0),
+            command_row!(assign 0, term 0 + 3),
+            command_row!(assert term 3 + 5),
+            command_row!(sequence left 0),
         ],
         terms: &[
-            item!(variable 0),
-            item!(literal 1),
-            item!(operation MINUS),
-            item!(variable 0),
-            item!(literal 0),
-            item!(operation LESS),
-            item!(literal 0),
-            item!(operation EQUAL),
+            term_row!(variable 0),
+            term_row!(literal 1),
+            term_row!(operation MINUS),
+            term_row!(variable 0),
+            term_row!(literal 0),
+            term_row!(operation LESS),
+            term_row!(literal 0),
+            term_row!(operation EQUAL),
         ],
     }
 }
@@ -115,7 +84,7 @@ pub fn third() -> Routine
 {
     Routine {
         v: 0,
-        commands: &[row!(RAISE)],
+        commands: &[command_row!(raise)],
         terms: &[],
     }
 }
@@ -127,11 +96,11 @@ pub fn fourth() -> Routine
     Routine {
         v: 0,
         commands: &[
-            row!(RAISE),
-            row!(ASSERT 0, term 0 + 1),
-            row!(SEQUENCE, left 0),
+            command_row!(raise), // the assertion is not reached
+            command_row!(assert term 0 + 1),
+            command_row!(sequence left 0),
         ],
-        terms: &[item!(literal 0)],
+        terms: &[term_row!(literal 0)],
     }
 }
 
@@ -141,8 +110,12 @@ pub fn fifth() -> Routine
 {
     Routine {
         v: 1,
-        commands: &[row!(ASSIGN 0, term 0 + 1), row!(SKIP), row!(CHOICE, left 0)],
-        terms: &[item!(literal 1)],
+        commands: &[
+            command_row!(assign 0, term 0 + 1),
+            command_row!(skip),
+            command_row!(choice left 0),
+        ],
+        terms: &[term_row!(literal 1)],
     }
 }
 
@@ -152,8 +125,12 @@ pub fn sixth() -> Routine
 {
     Routine {
         v: 0,
-        commands: &[row!(RAISE), row!(ASSERT 0, term 0 + 1), row!(CATCH, left 0)],
-        terms: &[item!(literal 0)],
+        commands: &[
+            command_row!(raise),
+            command_row!(assert term 0 + 1),
+            command_row!(catch left 0),
+        ],
+        terms: &[term_row!(literal 0)],
     }
 }
 
@@ -163,7 +140,7 @@ pub fn seventh() -> Routine
 {
     Routine {
         v: 0,
-        commands: &[row!(SKIP)],
+        commands: &[command_row!(skip)],
         terms: &[],
     }
 }
@@ -174,7 +151,7 @@ pub fn eighth() -> Routine
 {
     Routine {
         v: 1,
-        commands: &[row!(ASSERT 0, term 0 + 0)],
+        commands: &[command_row!(assert term 0 + 0)],
         terms: &[],
     }
 }
@@ -185,8 +162,8 @@ pub fn ninth() -> Routine
 {
     Routine {
         v: 1,
-        commands: &[row!(ASSERT 0, term 0 + 1)],
-        terms: &[item!(operation PLUS)],
+        commands: &[command_row!(assert term 0 + 1)],
+        terms: &[term_row!(operation PLUS)],
     }
 }
 
@@ -196,8 +173,8 @@ pub fn tenth() -> Routine
 {
     Routine {
         v: 1,
-        commands: &[row!(ASSIGN 1, term 0 + 1)],
-        terms: &[item!(literal 0)],
+        commands: &[command_row!(assign 1, term 0 + 1)],
+        terms: &[term_row!(literal 0)],
     }
 }
 
@@ -207,7 +184,7 @@ pub fn eleventh() -> Routine
 {
     Routine {
         v: 0,
-        commands: &[row!(SKIP), row!(SKIP)],
+        commands: &[command_row!(skip), command_row!(skip)],
         terms: &[],
     }
 }
@@ -218,7 +195,11 @@ pub fn twelfth() -> Routine
 {
     Routine {
         v: 0,
-        commands: &[row!(SKIP), row!(SKIP), row!(SEQUENCE, left 1)],
+        commands: &[
+            command_row!(skip),
+            command_row!(skip),
+            command_row!(sequence left 1),
+        ],
         terms: &[],
     }
 }
