@@ -6,14 +6,9 @@ ghost use Rattle.std.specs.Prelude.{◌≡◌, Ok};
 ghost use Rattle.routine.specs.Decoding.{decode};
 ghost use Rattle.samples.specs.Sample.{sample_routine};
 
+use kinds::numbers::{EQUAL, LESS, MINUS};
 use routine::rows::{CommandRow, TermRow};
 use routine::{command_row, term_row};
-
-const MINUS: u16 = 1;
-
-const LESS: u16 = 3;
-
-const EQUAL: u16 = 4;
 
 #[derive(Drop)]
 pub struct Sample {

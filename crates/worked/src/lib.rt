@@ -6,16 +6,9 @@ ghost use Rattle.worked.specs.Tables.{commands_1, terms_1, commands_2, terms_2, 
 ghost use Rattle.worked.specs.Tabled.{Tabled};
 ghost use Rattle.worked.specs.Worked.{WorkedOut};
 
+use kinds::numbers::{EQUAL, LESS, MINUS, PLUS};
 use routine::rows::{CommandRow, TermRow};
 use routine::{command_row, term_row};
-
-const PLUS: u16 = 0;
-
-const MINUS: u16 = 1;
-
-const LESS: u16 = 3;
-
-const EQUAL: u16 = 4;
 
 // A routine of v variables.
 #[derive(Clone, Copy)]
