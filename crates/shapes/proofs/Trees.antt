@@ -1,14 +1,7 @@
--- What loops keep that go over a table.
-use Rattle.std.proofs.Common.{◌≡◌, ℕ, ◌+◌, ◌<◌, cond, ◌≢◌, List, length, get_or, drop, set, sym, ap, ◌∙◌, arith, below_more, eq-eqb, ne_eqb}
-use Rattle.std.proofs.lemmas.List.{get_or-set_same, get_or-set_other, at_drop_more}
+-- Which part of a perfect tree a row ends.
+use Rattle.std.proofs.Common.{◌≡◌, ℕ, ◌+◌, ◌<◌, cond, ◌≢◌, List, length, get_or, drop, sym, ap, ◌∙◌, eq-eqb, ne_eqb}
+use Rattle.std.proofs.lemmas.List.{at_drop_more}
 use Rattle.shapes.specs.Shapes.{in_half, part_rows}
-
--- one more row is written
-pub filled_more :
-    {X : Type 0} (f : ℕ → X) (d : X) (xs : List X) (i : ℕ) (x : X) → i < length xs → x ≡ f i → ((k : ℕ) → k < i → get_or xs k d ≡ f k)
-    → (k : ℕ) → k < i + 1 → get_or (set xs i x) k d ≡ f k
-filled_more f d xs i x l e h =
-    below_more _ _ (λ k g. let ne : k ≢ i = omega arith in get_or-set_other xs i k x d ne ∙ h k g) (get_or-set_same xs i x d l ∙ e)
 
 -- one more size is tried: the row is the last of its half, or is looked for in smaller ones
 pub part_there :
