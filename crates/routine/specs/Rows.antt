@@ -1,11 +1,12 @@
 -- What a row says by its numbers.
-use Rattle.std.specs.Prelude.{ℕ, cond, Ok, Err, Result, ◌==◌}
+use Rattle.std.specs.Prelude.{ℕ, cond, Ok, Err, Result, List, codes, ◌==◌}
 use Rattle.kinds.specs.declared.numbered.Variable.{Variable}
 use Rattle.kinds.specs.declared.refusals.Refusal.{Refusal}
 use Rattle.kinds.specs.declared.refusals.Refusal.TheVariants.{Tag as UnknownTag}
 use Rattle.routine.specs.declared.rows.TermRow.{TermRow}
 use Rattle.routine.specs.declared.rows.Item.{Item}
 use Rattle.routine.specs.declared.rows.Item.TheVariants.{Literal, Reference, Operation}
+use Rattle.routine.specs.declared.rows.Joint.{Joint}
 use Rattle.routine.specs.declared.rows.Joint.TheVariants.{Sequence, Choice, Catch}
 use Rattle.routine.specs.declared.rows.Tag.{Tag}
 use Rattle.routine.specs.declared.rows.Tag.TheVariants.{Assert, Assume, Assign, Skip, Raise, Join}
@@ -32,3 +33,9 @@ tag_of number =
     (cond (number == 7) (Ok (Join Choice))
     (cond (number == 8) (Ok (Join Catch))
     (Err UnknownTag))))))))
+
+-- what a joint is called
+abbrev pub joint_name : Joint → List ℕ
+joint_name Sequence = codes "sequence"
+joint_name Choice = codes "choice"
+joint_name Catch = codes "catch"

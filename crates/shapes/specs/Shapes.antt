@@ -1,6 +1,6 @@
 -- Routines of a wanted shape, row by row. A command's rows are those of its left part, those of its right part, and then its own; so a
 -- joined row i has its right part before it, ending at row i - 1, and it is enough to say where its left part ends.
-use Rattle.std.specs.Prelude.{ℕ, ◌+◌, ◌-◌, ◌*◌, ◌/◌, ◌%◌, cond, List, [], ◌∷◌, Some, None, Option, ◌==◌, nat_le, nat_lt}
+use Rattle.std.specs.Prelude.{ℕ, ◌+◌, ◌-◌, ◌*◌, ◌/◌, ◌%◌, cond, List, [], ◌∷◌, codes, Some, None, Option, ◌==◌, nat_le, nat_lt}
 use Rattle.routine.specs.declared.rows.TermRow.{TermRow}
 use Rattle.routine.specs.declared.rows.CommandRow.{CommandRow}
 use Rattle.routine.specs.declared.rows.Joint.TheVariants.{Sequence}
@@ -67,6 +67,12 @@ abbrev pub left_of : Shape → ℕ → Option ℕ
 left_of (Combs outer inner) i = combs_left outer inner i
 left_of (Chains inner) i = chains_left inner i
 left_of Tree i = tree_left i
+
+-- what a shape is called
+abbrev pub shape_name : Shape → List ℕ
+shape_name (Combs outer inner) = codes "combs"
+shape_name (Chains inner) = codes "chains"
+shape_name Tree = codes "trees"
 
 -- the variables are assigned to in turn
 abbrev pub target_at : ℕ → ℕ → ℕ

@@ -2,14 +2,15 @@
 
 #![tactic(auto)]
 
-ghost use Rattle.std.specs.Prelude.{◌≡◌, ℕ, ◌%◌, ◌<◌, length, slice_index_or};
+ghost use Rattle.std.specs.Prelude.{◌≡◌, Some, ℕ, ◌%◌, ◌<◌, length, slice_index_or};
 ghost use Rattle.shapes.specs.declared.Shape.TheVariants.{Combs};
 ghost use Rattle.worked.specs.Tables.{skip_row, literal_row};
-ghost use Rattle.shapes.specs.Shapes.{in_half, tree_rows, tree_left, combs_left, chains_left, left_of, target_at, row_at, skips, sum_row};
+ghost use Rattle.shapes.specs.Shapes.{in_half, tree_rows, tree_left, combs_left, chains_left, left_of, shape_name, target_at, row_at, skips, sum_row};
 
 use kinds::numbers::PLUS;
 use routine::rows::{CommandRow, Joint, TermRow};
 use routine::{command_row, term_row};
+use std::fmt;
 
 // How the single commands of a routine are joined. All shapes say of any number of rows what they are, so a table is to have as many as
 // a whole routine takes: rows behind its last belong to no routine.
@@ -143,6 +144,18 @@ impl Shape {
             Shape::Chains { inner } => chains_left(inner, i),
             Shape::Tree => tree_left(i),
         }
+    }
+}
+
+impl fmt::Display for Shape {
+    ghost output = { λ shape. Some (shape_name shape) };
+
+    fn fmt<W: fmt::Write>(&self, f: &mut fmt::Formatter<W>) -> fmt::Result {
+        f.write_str(match self {
+            Shape::Combs { .. } => "combs",
+            Shape::Chains { .. } => "chains",
+            Shape::Tree => "trees",
+        })
     }
 }
 
