@@ -1,5 +1,5 @@
 -- Which part of a perfect tree a row ends.
-use Rattle.std.proofs.Common.{◌≡◌, ℕ, ◌+◌, ◌<◌, cond, ◌≢◌, List, length, get_or, drop, sym, ap, ◌∙◌, eq-eqb, ne_eqb}
+use Rattle.std.proofs.Common.{arith, ◌≡◌, ℕ, ◌+◌, ◌<◌, ◌≢◌, List, length, get_or, drop, ◌∙◌}
 use Rattle.std.proofs.lemmas.List.{at_drop_more}
 use Rattle.shapes.specs.Shapes.{in_half, part_rows}
 
@@ -7,14 +7,9 @@ use Rattle.shapes.specs.Shapes.{in_half, part_rows}
 pub part_there :
     (sizes : List ℕ) (i n m : ℕ) → i < length sizes → m ≡ in_half (get_or sizes i 0) n → m ≡ get_or sizes i 0
     → part_rows (drop i sizes) n ≡ get_or sizes i 0
-part_there sizes i n m l e t =
-    at_drop_more (λ z. part_rows z n) sizes i 0 l
-    ∙ ap (λ b. cond b (get_or sizes i 0) (part_rows (drop (i + 1) sizes) (in_half (get_or sizes i 0) n))) (eq-eqb _ _ (sym e ∙ t))
+part_there sizes i n m l e t = at_drop_more (λ z. part_rows z n) sizes i 0 l ∙ grind (arith, e, t)
 
 pub part_smaller :
     (sizes : List ℕ) (i n m : ℕ) → i < length sizes → m ≡ in_half (get_or sizes i 0) n → m ≢ get_or sizes i 0
     → part_rows (drop i sizes) n ≡ part_rows (drop (i + 1) sizes) m
-part_smaller sizes i n m l e t =
-    at_drop_more (λ z. part_rows z n) sizes i 0 l
-    ∙ ap (λ b. cond b (get_or sizes i 0) (part_rows (drop (i + 1) sizes) (in_half (get_or sizes i 0) n))) (ne_eqb _ _ (λ q. t (e ∙ q)))
-    ∙ ap (part_rows (drop (i + 1) sizes)) (sym e)
+part_smaller sizes i n m l e t = at_drop_more (λ z. part_rows z n) sizes i 0 l ∙ grind (arith, e, t)

@@ -198,6 +198,7 @@ pub fn twelfth() -> Routine
 }
 
 // What the rules say of the twelve.
+#[tactic(auto, using(crate::proofs::Worked::worked_out))]
 pub fn worked_out()
     ensures { WorkedOut }
 {}
