@@ -1,5 +1,6 @@
 -- The sizes of routines, and the families that they grow in.
 use Rattle.std.specs.Prelude.{ℕ, ◌+◌, ◌*◌, List, [], ◌∷◌}
+use Rattle.routine.specs.declared.rows.Joint.TheVariants.{Sequence, Choice}
 use Rattle.shapes.specs.declared.Shape.TheVariants.{Combs, Tree}
 use Rattle.shapes.specs.declared.Pattern.{Pattern}
 use Rattle.worked.specs.Tables.{assign_row}
@@ -24,10 +25,10 @@ abbrev pub smaller_combs : List Size
 smaller_combs = combs 0 8 ∷ combs 0 63 ∷ combs 1 62 ∷ combs 3 60 ∷ []
 
 abbrev pub sequences : ℕ → List Size → Family
-sequences v sizes = record { joint = 6; variables = v; sizes = sizes }
+sequences v sizes = record { joint = Sequence; variables = v; sizes = sizes }
 
 abbrev pub choices : ℕ → List Size → Family
-choices v sizes = record { joint = 7; variables = v; sizes = sizes }
+choices v sizes = record { joint = Choice; variables = v; sizes = sizes }
 
 abbrev pub families : List Family
 families =

@@ -2,19 +2,15 @@
 
 #![tactic(auto)]
 
-ghost use Rattle.std.specs.Prelude.{◌≡◌};
-ghost use Rattle.bench.specs.Shown.{joint_name, shape_name};
-
 mod routines;
 mod timing;
 
-use crate::routines::{Family, SEQUENCE, Size, TERMS, commands, families};
+use crate::routines::{Family, Size, TERMS, commands, families};
 use crate::timing::{Bench, Call, tenths};
 use anyhow::anyhow;
 use kinds::numbers::Number;
 use kinds::refusals::Refusal;
 use passify::calls::{FormMeasures, measure};
-use shapes::Shape;
 use std::{env, io};
 
 const ALL_CALLS: [Call; 5] = [
@@ -25,30 +21,13 @@ const ALL_CALLS: [Call; 5] = [
     Call::FileInEvaluator,
 ];
 
-fn joint_name(joint: u32) -> &'static str
-    ensures { result.now ≡ joint_name joint }
-{
-    if joint == SEQUENCE {
-        return "sequence";
-    }
-    "choice"
-}
-
-fn shape_name(shape: Shape) -> &'static str
-    ensures { result.now ≡ shape_name shape }
-{
-    match shape {
-        Shape::Combs { .. } => "combs",
-        Shape::Tree => "trees",
-    }
-}
-
 // Prints what the routines of a family are, and what the columns are.
 fn print_head(rt: &HostRuntime, family: Family) -> io::Result<()> {
-    let joint = joint_name(family.joint);
-    let variables = family.variables;
-    let [smallest, ..] = family.sizes;
-    let shape = shape_name(smallest.shape);
+    let Family {
+        joint,
+        variables,
+        sizes: [Size { shape, .. }, ..],
+    } = family;
     println!(rt;
         "assignments joined by {joint} in {shape}, variables {variables}: rows, depth, names, passive rows, nodes"
     )
@@ -70,7 +49,7 @@ fn print_counts(
             "{rows:>6}{depth:>6}{:>7}{:>9}{:>9}",
             form.names, form.rows, form.nodes
         ),
-        Err(refusal) => print!(rt; "{rows:>6}{depth:>6} refused with {}", refusal.number()),
+        Err(refusal) => print!(rt; "{rows:>6}{depth:>6} {refusal}"),
     }
 }
 
@@ -88,8 +67,8 @@ fn print_times(rt: &HostRuntime, bench: &mut Bench, calls: &[Call]) -> anyhow::R
 // Prints how many times the first times the last are.
 fn print_growth(rt: &HostRuntime, first: &[u64], last: &[u64]) -> io::Result<()> {
     print!(rt; "{:>37}", "grew, times")?;
-    for i in 0..first.len().min(last.len()) {
-        print_tenths(rt, tenths(last[i], first[i]))?;
+    for (first, last) in first.iter().zip(last) {
+        print_tenths(rt, tenths(*last, *first))?;
     }
     println!(rt; "")
 }

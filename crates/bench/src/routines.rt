@@ -4,13 +4,11 @@ ghost use Rattle.worked.specs.Tables.{skip_row};
 ghost use Rattle.shapes.specs.Shapes.{row_at};
 ghost use Rattle.bench.specs.Sizes.{pattern, tree, combs, trees, deep_combs, smaller_combs, sequences, choices, families};
 
-use routine::rows::{CommandRow, TermRow};
+use kinds::numbers::PLUS;
+use routine::rows::{CommandRow, Joint, TermRow};
+use routine::{command_row, term_row};
 use shapes::{Pattern, SKIP, Shape, fill};
 use std::alloc::{AllocError, Global};
-
-pub const SEQUENCE: u32 = 6;
-
-const CHOICE: u32 = 7;
 
 // A shape with as many rows as its whole routine has, and how deep that is.
 #[derive(Clone, Copy)]
@@ -23,7 +21,7 @@ pub struct Size {
 // Routines that differ in their size alone, from the smallest to the largest.
 #[derive(Clone, Copy)]
 pub struct Family {
-    pub joint: u32,
+    pub joint: Joint,
     pub variables: u32,
     pub sizes: [Size; 4],
 }
@@ -73,7 +71,7 @@ fn sequences(variables: u32, sizes: [Size; 4]) -> Family
     ensures { result ≡ sequences variables sizes }
 {
     Family {
-        joint: SEQUENCE,
+        joint: Joint::Sequence,
         variables,
         sizes,
     }
@@ -83,7 +81,7 @@ fn choices(variables: u32, sizes: [Size; 4]) -> Family
     ensures { result ≡ choices variables sizes }
 {
     Family {
-        joint: CHOICE,
+        joint: Joint::Choice,
         variables,
         sizes,
     }
@@ -106,29 +104,22 @@ pub fn families() -> [Family; 8]
 
 // The term of every assignment: v0 + 1.
 pub const TERMS: [TermRow; 3] = [
-    TermRow { tag: 2, number: 0 },
-    TermRow { tag: 1, number: 1 },
-    TermRow { tag: 3, number: 0 },
+    term_row!(variable 0),
+    term_row!(literal 1),
+    term_row!(operation PLUS),
 ];
 
 // The command rows of a family's routine of this size.
 pub fn commands(heap: Global, family: Family, size: Size) -> Result<Vec<CommandRow>, AllocError>
     ensures { IfOk result (λ v. (vec_len v ≡ size.rows) × ((k : ℕ) → k < size.rows → slice_index_or v.items k skip_row ≡ row_at (pattern family size) (k % 65536))) }
 {
-    let assign = CommandRow {
-        tag: 3,
-        target: 0,
-        from: 0,
-        count: 3,
-        left: 0,
-    };
     let mut rows = vec![in heap; SKIP; size.rows as usize]?;
     fill(
         rows.as_mut_slice(),
         Pattern {
             shape: size.shape,
             joint: family.joint,
-            single: assign,
+            single: command_row!(assign 0, term 0 + 3),
             variables: family.variables,
         },
     );

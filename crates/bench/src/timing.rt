@@ -50,25 +50,27 @@ pub fn tenths(whole: u64, part: u64) -> u64
     whole.saturating_mul(10) / part.max(1)
 }
 
-// What a call goes over: the rows of a routine, those of its passive form, or the nodes of its condition.
-fn units(call: Call, rows: u32, form: FormMeasures) -> u32
-    ensures { result ≡ units call rows form }
-{
-    match call {
-        Call::Check | Call::Measure => rows,
-        Call::Passify => form.rows,
-        Call::FileInTable | Call::FileInEvaluator => form.nodes,
+impl Call {
+    // What a call goes over: the rows of a routine, those of its passive form, or the nodes of its condition.
+    fn units(self, rows: u32, form: FormMeasures) -> u32
+        ensures { result ≡ units self rows form }
+    {
+        match self {
+            Call::Check | Call::Measure => rows,
+            Call::Passify => form.rows,
+            Call::FileInTable | Call::FileInEvaluator => form.nodes,
+        }
     }
-}
 
-// How often a call over so many units is made in a run.
-fn turns(call: Call, units: u32) -> u32
-    ensures { result ≡ turns call units }
-{
-    let turns = (UNITS / units.max(1)).max(1);
-    match call {
-        Call::FileInTable | Call::FileInEvaluator => turns.min(MOST_FILINGS),
-        _ => turns,
+    // How often a call over so many units is made in a run.
+    fn turns(self, units: u32) -> u32
+        ensures { result ≡ turns self units }
+    {
+        let turns = (UNITS / units.max(1)).max(1);
+        match self {
+            Call::Check | Call::Measure | Call::Passify => turns,
+            Call::FileInTable | Call::FileInEvaluator => turns.min(MOST_FILINGS),
+        }
     }
 }
 
@@ -94,31 +96,23 @@ impl Bench {
         })
     }
 
-    // Makes a call on the routine alone, and tells whether it is accepted.
-    fn accepts(&mut self, call: Call) -> bool {
-        let (v, commands) = (self.variables, self.commands.as_slice());
-        match call {
-            Call::Check => check::<Number>(v, commands, &TERMS).is_ok(),
-            Call::Measure => measure::<Number>(v, commands, &TERMS).is_ok(),
-            _ => passify::<Number>(
-                v,
-                commands,
-                &TERMS,
-                self.rows.as_mut_slice(),
-                self.terms.as_mut_slice(),
-            )
-            .is_ok(),
-        }
-    }
-
-    // The time of a run of calls. Each begins with a write to a field that is not read, or the compiler might make one call of them all.
-    fn time_calls(&mut self, rt: &HostRuntime, call: Call, turns: u32) -> anyhow::Result<u64> {
+    // The time of a run of a call on the routine alone, which tells whether it is accepted. Each begins with a write to a field that is not
+    // read, or the compiler might make one call of them all.
+    fn time_calls<F: Fn(&mut Bench) -> bool>(
+        &mut self,
+        rt: &HostRuntime,
+        turns: u32,
+        accepts: F,
+    ) -> anyhow::Result<u64>
+    where
+        requires { F.IsAlwaysCallable accepts }
+    {
         let start = Instant::now(rt)?;
         for turn in 0..turns {
             if let Some(row) = self.commands.get_mut(0) {
                 row.left = turn;
             }
-            if !self.accepts(call) {
+            if !accepts(self) {
                 return Err(anyhow!("a call was refused"));
             }
         }
@@ -153,6 +147,22 @@ impl Bench {
         let width = self.form.names;
         let places = self.form.nodes.saturating_mul(turns) as usize;
         match call {
+            Call::Check => self.time_calls(rt, turns, |bench| {
+                check::<Number>(bench.variables, bench.commands.as_slice(), &TERMS).is_ok()
+            }),
+            Call::Measure => self.time_calls(rt, turns, |bench| {
+                measure::<Number>(bench.variables, bench.commands.as_slice(), &TERMS).is_ok()
+            }),
+            Call::Passify => self.time_calls(rt, turns, |bench| {
+                passify::<Number>(
+                    bench.variables,
+                    bench.commands.as_slice(),
+                    &TERMS,
+                    bench.rows.as_mut_slice(),
+                    bench.terms.as_mut_slice(),
+                )
+                .is_ok()
+            }),
             Call::FileInTable => {
                 let rows = vec![in rt.alloc(); NodeRow::BLANK; places]?;
                 let store: TableStore<Number> = TableStore::new(rows, width);
@@ -164,15 +174,14 @@ impl Bench {
                 let store: Evaluator<Number> = Evaluator::new(values, width);
                 self.time_filings(rt, store, turns)
             }
-            _ => self.time_calls(rt, call, turns),
         }
     }
 
     // What a call takes for each row, passive row or node, in tenths of a nanosecond.
     pub fn time(&mut self, rt: &HostRuntime, call: Call) -> anyhow::Result<u64> {
         let rows = u32::try_from(self.commands.len()).unwrap_or(u32::MAX);
-        let units = units(call, rows, self.form);
-        let turns = turns(call, units);
+        let units = call.units(rows, self.form);
+        let turns = call.turns(units);
         let mut best = u64::MAX;
         for _ in 0..RUNS {
             best = best.min(self.time_run(rt, call, turns)?);

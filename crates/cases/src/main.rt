@@ -5,16 +5,17 @@
 ghost use Rattle.std.specs.Prelude.{◌≡◌, ◌+◌, ◌%◌, ◌^◌, true, IfOk, Ok};
 
 use anyhow::anyhow;
-use edges::shapes::{chains, row, sum_of};
 use formula::evaluators::Evaluator;
 use formula::tables::{NodeRow, TableStore};
 use kinds::numbered::{Name, Node};
 use kinds::numbers::Number;
 use kinds::refusals::Refusal;
-use passive::rows::{PassiveRow, PassiveTermRow};
+use passive::rows::{PassiveRow, PassiveTag, PassiveTermRow};
 use register::entries::Filing;
 use register::registers::Register;
-use routine::rows::{CommandRow, TermRow};
+use routine::rows::{CommandRow, Joint, TermRow};
+use routine::{command_row, term_row};
+use shapes::{SKIP, Shape, comb, fill, fill_sum, skips};
 use worked::{
     Routine, eighth, eleventh, fifth, first, fourth, ninth, second, seventh, sixth, tenth, third,
     twelfth, worked_out,
@@ -78,24 +79,11 @@ fn same_filing(
         return Ok(true);
     }
     match found {
-        Ok(filing) => {
-            let Filing {
-                node,
-                names,
-                rows,
-                terms,
-                rise,
-                ..
-            } = filing;
-            let node = node.0;
-            println!(rt;
-                "filed: node {node}, names {names}, rows {rows}, terms {terms}, rise {rise}"
-            )?;
-        }
-        Err(refusal) => {
-            let number = refusal.number();
-            println!(rt; "refused with {number}")?;
-        }
+        Ok(filing) => println!(rt;
+            "filed: {}, names {}, rows {}, terms {}, rise {}",
+            filing.node, filing.names, filing.rows, filing.terms, filing.rise
+        )?,
+        Err(refusal) => println!(rt; "{refusal}")?,
     }
     Ok(false)
 }
@@ -127,17 +115,13 @@ fn condition_value(
     let mut register = Register::new(store, routine.v);
     let mut passive_rows = [PassiveRow::BLANK; 8];
     let mut passive_terms = [PassiveTermRow::BLANK; 16];
-    Ok(
-        match register.file(
-            routine.commands,
-            routine.terms,
-            &mut passive_rows,
-            &mut passive_terms,
-        ) {
-            Ok(filing) => register.store().value(filing.node),
-            Err(refusal) => Err(refusal),
-        },
-    )
+    let filed = register.file(
+        routine.commands,
+        routine.terms,
+        &mut passive_rows,
+        &mut passive_terms,
+    );
+    Ok(filed.and_then(|filing| register.store().value(filing.node)))
 }
 
 // Whether the condition is true, or false, under the assignment, as the rules give it; where it is not, says so.
@@ -182,44 +166,49 @@ fn fourth_rows(rt: &HostRuntime) -> anyhow::Result<bool> {
     let found = register.file(commands, terms, &mut rows, &mut []);
     let same = same_filing(rt, found, filed(0, 3, 0, 6))?;
     let [raise, stop, sequence] = rows;
-    Ok(same && raise.tag == 5 && stop.tag == 10 && sequence.tag == 6 && sequence.left == 0)
+    Ok(
+        same && raise.tag == u32::from(PassiveTag::Raise)
+            && stop.tag == u32::from(PassiveTag::Stop)
+            && sequence.tag == u32::from(PassiveTag::Join(Joint::Sequence))
+            && sequence.left == 0,
+    )
+}
+
+// Whether filing skips in sequence, of this shape and in so many rows, answers what the rules give.
+fn files_skips(
+    rt: &HostRuntime,
+    shape: Shape,
+    rows: usize,
+    expected: Result<Filing, Refusal>,
+) -> anyhow::Result<bool> {
+    let mut commands = vec![in rt.alloc(); SKIP; rows]?;
+    fill(commands.as_mut_slice(), skips(shape));
+    let found = file(rt, 0, commands.as_slice(), &[], PLACES)?;
+    same_filing(rt, found, expected)
 }
 
 // C13: 1,023 rows are filed, 1,024 are refused.
 fn most_rows(rt: &HostRuntime) -> anyhow::Result<bool> {
-    let mut rows = chains(rt.alloc(), 32, 16)?;
-    let most = file(rt, 0, rows.as_slice(), &[], PLACES)?;
-    let same = rows.len() == 1023 && same_filing(rt, most, filed(0, 1023, 0, 2556))?;
-    rows.push(row(4, 0, 0, 0, 0))?;
-    let more = file(rt, 0, rows.as_slice(), &[], PLACES)?;
-    Ok(same_filing(rt, more, Err(Refusal::Limits))? && same)
+    let chains = Shape::Chains { inner: 15 };
+    let same = files_skips(rt, chains, 1023, filed(0, 1023, 0, 2556))?;
+    Ok(files_skips(rt, chains, 1024, Err(Refusal::Limits))? && same)
 }
 
 // C14: a depth of 64 is filed, one of 65 refused.
 fn most_depth(rt: &HostRuntime) -> anyhow::Result<bool> {
-    let most = file(rt, 0, chains(rt.alloc(), 1, 64)?.as_slice(), &[], PLACES)?;
-    let same = same_filing(rt, most, filed(0, 127, 0, 316))?;
-    let more = file(rt, 0, chains(rt.alloc(), 1, 65)?.as_slice(), &[], PLACES)?;
-    Ok(same_filing(rt, more, Err(Refusal::Parts))? && same)
+    let same = files_skips(rt, comb(63), 127, filed(0, 127, 0, 316))?;
+    Ok(files_skips(rt, comb(64), 129, Err(Refusal::Parts))? && same)
 }
 
 // C15: a term with 16 values waiting is filed, one with 17 refused.
 fn most_waiting(rt: &HostRuntime) -> anyhow::Result<bool> {
-    let most = file(
-        rt,
-        1,
-        &[row(3, 0, 0, 31, 0)],
-        sum_of(rt.alloc(), 16)?.as_slice(),
-        PLACES,
-    )?;
+    let mut sum = [term_row!(literal 1); 31];
+    fill_sum(&mut sum);
+    let most = file(rt, 1, &[command_row!(assign 0, term 0 + 31)], &sum, PLACES)?;
     let same = same_filing(rt, most, filed(2, 1, 31, 34))?;
-    let more = file(
-        rt,
-        1,
-        &[row(3, 0, 0, 33, 0)],
-        sum_of(rt.alloc(), 17)?.as_slice(),
-        PLACES,
-    )?;
+    let mut sum = [term_row!(literal 1); 33];
+    fill_sum(&mut sum);
+    let more = file(rt, 1, &[command_row!(assign 0, term 0 + 33)], &sum, PLACES)?;
     Ok(same_filing(rt, more, Err(Refusal::Term))? && same)
 }
 
@@ -235,52 +224,59 @@ fn exact_places(rt: &HostRuntime) -> anyhow::Result<bool> {
 fn report(rt: &HostRuntime, number: u32, same: bool) -> anyhow::Result<bool>
     ensures { IfOk result (λ b. b ≡ same) }
 {
-    if same {
-        println!(rt; "C{number} same")?;
-    } else {
-        println!(rt; "C{number} differs")?;
-    }
+    let answer = if same { "same" } else { "differs" };
+    println!(rt; "C{number} {answer}")?;
     Ok(same)
 }
 
-// Whether everything that the rules give for a routine is the same.
-fn compare(rt: &HostRuntime, number: u32) -> anyhow::Result<bool> {
-    match number {
-        1 => Ok(files(rt, first(), filed(2, 5, 11, 25))? && first_holds(rt)?),
-        2 => Ok(
+// Compares everything that the rules give for the sixteen routines.
+fn run(rt: &HostRuntime) -> anyhow::Result<()> {
+    worked_out();
+    let same = [
+        report(
+            rt,
+            1,
+            files(rt, first(), filed(2, 5, 11, 25))? && first_holds(rt)?,
+        )?,
+        report(
+            rt,
+            2,
             files(rt, second(), filed(2, 3, 8, 17))?
                 && holds(rt, second(), [0, -1], false)?
                 && holds(rt, second(), [0, 5], true)?
                 && holds(rt, second(), [i32::MIN, i32::MAX], true)?,
-        ),
-        3 => Ok(files(rt, third(), filed(0, 1, 0, 1))? && holds(rt, third(), [0, 0], true)?),
-        4 => Ok(fourth_rows(rt)? && holds(rt, fourth(), [0, 0], true)?),
-        5 => files(rt, fifth(), filed(3, 7, 3, 23)),
-        6 => Ok(files(rt, sixth(), filed(0, 3, 1, 8))? && holds(rt, sixth(), [0, 0], false)?),
-        7 => files(rt, seventh(), filed(0, 1, 0, 1)),
-        8 => files(rt, eighth(), Err(Refusal::Term)),
-        9 => files(rt, ninth(), Err(Refusal::Term)),
-        10 => files(rt, tenth(), Err(Refusal::Target)),
-        11 => files(rt, eleventh(), Err(Refusal::Whole)),
-        12 => files(rt, twelfth(), Err(Refusal::Parts)),
-        13 => most_rows(rt),
-        14 => most_depth(rt),
-        15 => most_waiting(rt),
-        _ => exact_places(rt),
+        )?,
+        report(
+            rt,
+            3,
+            files(rt, third(), filed(0, 1, 0, 1))? && holds(rt, third(), [0, 0], true)?,
+        )?,
+        report(
+            rt,
+            4,
+            fourth_rows(rt)? && holds(rt, fourth(), [0, 0], true)?,
+        )?,
+        report(rt, 5, files(rt, fifth(), filed(3, 7, 3, 23))?)?,
+        report(
+            rt,
+            6,
+            files(rt, sixth(), filed(0, 3, 1, 8))? && holds(rt, sixth(), [0, 0], false)?,
+        )?,
+        report(rt, 7, files(rt, seventh(), filed(0, 1, 0, 1))?)?,
+        report(rt, 8, files(rt, eighth(), Err(Refusal::Term))?)?,
+        report(rt, 9, files(rt, ninth(), Err(Refusal::Term))?)?,
+        report(rt, 10, files(rt, tenth(), Err(Refusal::Target))?)?,
+        report(rt, 11, files(rt, eleventh(), Err(Refusal::Whole))?)?,
+        report(rt, 12, files(rt, twelfth(), Err(Refusal::Parts))?)?,
+        report(rt, 13, most_rows(rt)?)?,
+        report(rt, 14, most_depth(rt)?)?,
+        report(rt, 15, most_waiting(rt)?)?,
+        report(rt, 16, exact_places(rt)?)?,
+    ];
+    if same.contains(&false) {
+        return Err(anyhow!("not all figures are the same"));
     }
-}
-
-fn run(rt: &HostRuntime) -> anyhow::Result<()> {
-    worked_out();
-    let mut all = true;
-    for number in 1..17 {
-        all = report(rt, number, compare(rt, number)?)? && all;
-    }
-    if all {
-        Ok(())
-    } else {
-        Err(anyhow!("not all figures are the same"))
-    }
+    Ok(())
 }
 
 fn main(rt: HostRuntime) -> anyhow::Result<()> {

@@ -1,55 +1,36 @@
 // Passive forms against tables worked out by hand, and measure and passify at their limits.
-ghost use Rattle.std.specs.Prelude.{◌≡◌, [], ◌∷◌, is_ok};
-ghost use Rattle.passive.specs.Layout.{passive_row, joint_row};
+ghost use Rattle.std.specs.Prelude.{◌≡◌, ◌-◌, ◌^◌, ◌<◌, [], ◌∷◌, is_ok, length};
+ghost use Rattle.passive.specs.Layout.{passive_row};
 
-use crate::shapes::{item, row};
+use crate::rows::row;
 use kinds::numbered::{Name, Node};
 use kinds::numbers::Number;
 use kinds::refusals::Refusal;
 use passify::calls::{FormLengths, FormMeasures, measure, passify};
-use passive::rows::{PassiveRow, PassiveTermRow};
-use routine::rows::{CommandRow, TermRow};
+use passive::rows::{PassiveRow, PassiveTag, PassiveTermRow};
+use routine::rows::Joint::{Catch, Choice, Sequence};
+use routine::rows::{CommandRow, Item, TermRow};
+use routine::{command_row, term_row};
 use std::alloc::{AllocError, Global};
 use std::test::Fail;
-
-fn passive(tag: u32, f: u16, from: u32, count: u32, left: u32) -> PassiveRow
-    ensures { result ≡ passive_row tag (record { 0 = f }) from count left }
-{
-    PassiveRow {
-        tag,
-        f: Name(f),
-        from,
-        count,
-        left,
-        n: Node(0),
-        x: Node(0),
-        w: Node(0),
-    }
-}
 
 // let f be the one term row `from`
 fn let_row(f: u16, from: u32) -> PassiveRow
     ensures { result ≡ passive_row 9 (record { 0 = f }) from 1 0 }
 {
-    passive(9, f, from, 1, 0)
-}
-
-fn joined(tag: u32, left: u32) -> PassiveRow
-    ensures { result ≡ joint_row tag left }
-{
-    passive(tag, 0, 0, 0, left)
+    PassiveRow::with_term(PassiveTag::Let, Name(f), from, 1)
 }
 
 fn literal(number: u16) -> PassiveTermRow
     ensures { result ≡ record { tag = 1; number = number } }
 {
-    PassiveTermRow { tag: 1, number }
+    PassiveTermRow::from(Item::Literal(number))
 }
 
 fn name(number: u16) -> PassiveTermRow
     ensures { result ≡ record { tag = 2; number = number } }
 {
-    PassiveTermRow { tag: 2, number }
+    PassiveTermRow::from(Item::Reference(Name(number)))
 }
 
 // What stands in a table before a call.
@@ -120,17 +101,17 @@ fn one_part_sets(rt: HostRuntime) -> Result<(), Fail> {
     let rows = [
         let_row(1, 0),
         let_row(2, 1),
-        joined(6, 0),
-        joined(4, 0),
+        PassiveRow::joining(Sequence, 0),
+        PassiveRow::plain(PassiveTag::Skip),
         let_row(2, 2),
-        joined(6, 3),
-        joined(7, 2),
+        PassiveRow::joining(Sequence, 3),
+        PassiveRow::joining(Choice, 2),
     ];
     same_form(
         rt.alloc(),
         1,
         &set_or_skip(),
-        &[item(1, 1)],
+        &[term_row!(literal 1)],
         &rows,
         &[literal(1), name(1), name(0)],
     )
@@ -140,24 +121,24 @@ fn one_part_sets(rt: HostRuntime) -> Result<(), Fail> {
 #[test]
 fn handler_sets(rt: HostRuntime) -> Result<(), Fail> {
     let commands = [
-        row(3, 0, 0, 1, 0),
-        row(5, 0, 0, 0, 0),
-        row(7, 0, 0, 0, 0),
-        row(3, 0, 1, 1, 0),
-        row(8, 0, 0, 0, 2),
+        command_row!(assign 0, term 0 + 1),
+        command_row!(raise),
+        command_row!(choice left 0),
+        command_row!(assign 0, term 1 + 1),
+        command_row!(catch left 2),
     ];
     let rows = [
         let_row(1, 0),
-        joined(5, 0),
-        joined(7, 0),
+        PassiveRow::plain(PassiveTag::Raise),
+        PassiveRow::joining(Choice, 0),
         let_row(3, 1),
-        joined(6, 2),
+        PassiveRow::joining(Sequence, 2),
         let_row(2, 2),
         let_row(3, 3),
-        joined(6, 5),
-        joined(8, 4),
+        PassiveRow::joining(Sequence, 5),
+        PassiveRow::joining(Catch, 4),
     ];
-    let terms = [item(1, 1), item(1, 2)];
+    let terms = [term_row!(literal 1), term_row!(literal 2)];
     same_form(
         rt.alloc(),
         1,
@@ -171,52 +152,52 @@ fn handler_sets(rt: HostRuntime) -> Result<(), Fail> {
 // two parts that each set v0 and then skip or raise: both ends are merged, the normal one first
 #[test]
 fn two_merges(rt: HostRuntime) -> Result<(), Fail> {
-    let skip = row(4, 0, 0, 0, 0);
-    let raise = row(5, 0, 0, 0, 0);
+    let skip = command_row!(skip);
+    let raise = command_row!(raise);
     let commands = [
-        row(3, 0, 0, 1, 0),
+        command_row!(assign 0, term 0 + 1),
         skip,
         raise,
-        row(7, 0, 0, 0, 1),
-        row(6, 0, 0, 0, 0),
-        row(3, 0, 1, 1, 0),
+        command_row!(choice left 1),
+        command_row!(sequence left 0),
+        command_row!(assign 0, term 1 + 1),
         skip,
         raise,
-        row(7, 0, 0, 0, 6),
-        row(6, 0, 0, 0, 5),
-        row(7, 0, 0, 0, 4),
+        command_row!(choice left 6),
+        command_row!(sequence left 5),
+        command_row!(choice left 4),
     ];
     let rows = [
         let_row(1, 0),
-        joined(4, 0),
-        joined(5, 0),
-        joined(7, 1),
-        joined(6, 0),
+        PassiveRow::plain(PassiveTag::Skip),
+        PassiveRow::plain(PassiveTag::Raise),
+        PassiveRow::joining(Choice, 1),
+        PassiveRow::joining(Sequence, 0),
         let_row(3, 1),
-        joined(6, 4),
+        PassiveRow::joining(Sequence, 4),
         let_row(4, 2),
-        joined(5, 0),
-        joined(6, 7),
-        joined(8, 6),
+        PassiveRow::plain(PassiveTag::Raise),
+        PassiveRow::joining(Sequence, 7),
+        PassiveRow::joining(Catch, 6),
         let_row(2, 3),
-        joined(4, 0),
-        joined(5, 0),
-        joined(7, 12),
-        joined(6, 11),
+        PassiveRow::plain(PassiveTag::Skip),
+        PassiveRow::plain(PassiveTag::Raise),
+        PassiveRow::joining(Choice, 12),
+        PassiveRow::joining(Sequence, 11),
         let_row(3, 4),
-        joined(6, 15),
+        PassiveRow::joining(Sequence, 15),
         let_row(4, 5),
-        joined(5, 0),
-        joined(6, 18),
-        joined(8, 17),
-        joined(7, 10),
+        PassiveRow::plain(PassiveTag::Raise),
+        PassiveRow::joining(Sequence, 18),
+        PassiveRow::joining(Catch, 17),
+        PassiveRow::joining(Choice, 10),
     ];
     let passive_terms = [literal(1), name(1), name(1), literal(2), name(2), name(2)];
     same_form(
         rt.alloc(),
         1,
         &commands,
-        &[item(1, 1), item(1, 2)],
+        &[term_row!(literal 1), term_row!(literal 2)],
         &rows,
         &passive_terms,
     )
@@ -225,20 +206,28 @@ fn two_merges(rt: HostRuntime) -> Result<(), Fail> {
 // raise, and then what control does not come to
 #[test]
 fn stops(rt: HostRuntime) -> Result<(), Fail> {
-    let commands = [row(5, 0, 0, 0, 0), row(1, 0, 0, 1, 0), row(6, 0, 0, 0, 0)];
+    let commands = [
+        command_row!(raise),
+        command_row!(assert term 0 + 1),
+        command_row!(sequence left 0),
+    ];
     same_form(
         rt.alloc(),
         0,
         &commands,
-        &[item(1, 0)],
-        &[joined(5, 0), joined(10, 0), joined(6, 0)],
+        &[term_row!(literal 0)],
+        &[
+            PassiveRow::plain(PassiveTag::Raise),
+            PassiveRow::plain(PassiveTag::Stop),
+            PassiveRow::joining(Sequence, 0),
+        ],
         &[],
     )
 }
 
 #[test]
 fn measures(rt: HostRuntime) {
-    let answer = measure::<Number>(1, &set_or_skip(), &[item(1, 1)]);
+    let answer = measure::<Number>(1, &set_or_skip(), &[term_row!(literal 1)]);
     assert_eq!(rt;
         answer,
         Ok(FormMeasures {
@@ -249,7 +238,7 @@ fn measures(rt: HostRuntime) {
         })
     );
     assert_eq!(rt;
-        measure::<Number>(0, &set_or_skip(), &[item(1, 1)]),
+        measure::<Number>(0, &set_or_skip(), &[term_row!(literal 1)]),
         Err(Refusal::Target)
     );
 }
@@ -262,7 +251,7 @@ fn in_tables(rows: usize, terms: usize) -> Result<Result<FormLengths, Refusal>, 
     let answer = passify::<Number>(
         1,
         &set_or_skip(),
-        &[item(1, 1)],
+        &[term_row!(literal 1)],
         &mut found[0..rows],
         &mut found_terms[0..terms],
     );
@@ -292,30 +281,32 @@ fn tables_just_long_enough(rt: HostRuntime) -> Result<(), Fail> {
     Ok(())
 }
 
+// The last row: where the part ends that was written last.
+fn last_row(rows: &[CommandRow]) -> u32
+    ensures { length rows.now < 2 ^ 32 → result ≡ length rows.now - 1 }
+{
+    u32::try_from(rows.len()).unwrap_or(0).saturating_sub(1)
+}
+
 // a chain of sets of v0 to v31, in `levels` choices with skip; such blocks in sequence
 fn blocks(heap: Global, levels: &[u32]) -> Result<Vec<CommandRow>, AllocError> {
     let mut rows = Vec::new(heap);
-    let mut at: u32 = 0;
     for (i, level) in levels.iter().enumerate() {
-        let before = at.wrapping_sub(1);
+        let before = last_row(rows.as_slice());
         for x in 0..32 {
-            let left = at.wrapping_sub(1);
-            rows.push(row(3, x, 0, 1, 0))?;
-            at = at.wrapping_add(1);
+            let left = last_row(rows.as_slice());
+            rows.push(command_row!(assign x, term 0 + 1))?;
             if x > 0 {
-                rows.push(row(6, 0, 0, 0, left))?;
-                at = at.wrapping_add(1);
+                rows.push(command_row!(sequence left left))?;
             }
         }
         for _ in 0..*level {
-            let left = at.wrapping_sub(1);
-            rows.push(row(4, 0, 0, 0, 0))?;
-            rows.push(row(7, 0, 0, 0, left))?;
-            at = at.wrapping_add(2);
+            let left = last_row(rows.as_slice());
+            rows.push(command_row!(skip))?;
+            rows.push(command_row!(choice left left))?;
         }
         if i > 0 {
-            rows.push(row(6, 0, 0, 0, before))?;
-            at = at.wrapping_add(1);
+            rows.push(command_row!(sequence left before))?;
         }
     }
     Ok(rows)
@@ -324,7 +315,7 @@ fn blocks(heap: Global, levels: &[u32]) -> Result<Vec<CommandRow>, AllocError> {
 // 32 names, then in each block 32 for the sets and 32 for each choice: 4,096 in all; then one set more
 #[test]
 fn most_names(rt: HostRuntime) -> Result<(), Fail> {
-    let terms = [item(1, 1)];
+    let terms = [term_row!(literal 1)];
     let mut rows = blocks(rt.alloc(), &[25, 25, 24, 24, 24])?;
     match measure::<Number>(32, rows.as_slice(), &terms) {
         Ok(form) => assert_eq!(rt; form.names, 4096),
@@ -334,9 +325,9 @@ fn most_names(rt: HostRuntime) -> Result<(), Fail> {
         passify::<Number>(32, rows.as_slice(), &terms, &mut [], &mut []),
         Err(Refusal::WorkTable)
     );
-    let last = u32::try_from(rows.len()).unwrap_or(0).wrapping_sub(1);
-    rows.push(row(3, 0, 0, 1, 0))?;
-    rows.push(row(6, 0, 0, 0, last))?;
+    let last = last_row(rows.as_slice());
+    rows.push(command_row!(assign 0, term 0 + 1))?;
+    rows.push(command_row!(sequence left last))?;
     assert_eq!(rt;
         passify::<Number>(32, rows.as_slice(), &terms, &mut [], &mut []),
         Err(Refusal::Names)

@@ -8,6 +8,6 @@ mod forms;
 mod registers;
 #[cfg(test)]
 mod routines;
-pub mod shapes;
+pub mod rows;
 #[cfg(test)]
 mod stores;

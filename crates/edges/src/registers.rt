@@ -1,61 +1,49 @@
 // Conditions and registers at their limits, and what somebody would try who wants an entry to say something else.
-use crate::shapes::{item, row};
 use conditions::calls::make_condition;
 use formula::evaluators::Evaluator;
 use formula::stores::Store;
 use formula::tables::{NodeRow, TableStore};
 use kinds::flags::Flag;
-use kinds::numbered::{Name, Node};
-use kinds::numbers::Number;
+use kinds::numbered::Node;
+use kinds::numbers::{LESS, Number};
 use kinds::refusals::Refusal;
 use passive::rows::{PassiveRow, PassiveTermRow};
 use register::entries::{Joining, Reading};
 use register::registers::Register;
-use routine::rows::{CommandRow, TermRow};
+use routine::{command_row, term_row};
 use std::test::Fail;
 use worked::{Routine, first, second};
-
-const UNUSED: NodeRow = NodeRow {
-    tag: 0,
-    operation: 0,
-    first: 0,
-    second: 0,
-};
-
-const BLANK_ROW: PassiveRow = PassiveRow {
-    tag: 0,
-    f: Name(0),
-    from: 0,
-    count: 0,
-    left: 0,
-    n: Node(0),
-    x: Node(0),
-    w: Node(0),
-};
-
-const BLANK_TERM: PassiveTermRow = PassiveTermRow { tag: 0, number: 0 };
 
 // Exactly the places that were measured suffice; one fewer is refused, and store and table are as before. So are too few names and rows.
 #[test]
 fn places_and_tables(rt: HostRuntime) -> Result<(), Fail> {
     let Routine { v, commands, terms } = first();
-    let mut rows = [BLANK_ROW; 5];
-    let mut out = [BLANK_TERM; 11];
-    let mut store: TableStore<Number> = TableStore::new(vec![in rt.alloc(); UNUSED; 24]?, 2);
+    let mut rows = [PassiveRow::BLANK; 5];
+    let mut out = [PassiveTermRow::BLANK; 11];
+    let mut store: TableStore<Number> = TableStore::new(
+        vec![in rt.alloc(); NodeRow::BLANK; 24]?,
+        2,
+    );
     let answer = make_condition(&mut store, v, commands, terms, &mut rows, &mut out);
     assert_eq!(rt; answer, Err(Refusal::Places));
     assert_eq!(rt; store.count(), 2);
-    assert!(rt; rows[0] == BLANK_ROW);
-    let mut store: TableStore<Number> = TableStore::new(vec![in rt.alloc(); UNUSED; 25]?, 1);
+    assert!(rt; rows[0] == PassiveRow::BLANK);
+    let mut store: TableStore<Number> = TableStore::new(
+        vec![in rt.alloc(); NodeRow::BLANK; 25]?,
+        1,
+    );
     let answer = make_condition(&mut store, v, commands, terms, &mut rows, &mut out);
     assert_eq!(rt; answer, Err(Refusal::Names));
-    let mut store: TableStore<Number> = TableStore::new(vec![in rt.alloc(); UNUSED; 25]?, 2);
+    let mut store: TableStore<Number> = TableStore::new(
+        vec![in rt.alloc(); NodeRow::BLANK; 25]?,
+        2,
+    );
     let answer = make_condition(
         &mut store,
         v,
         commands,
         terms,
-        &mut [BLANK_ROW; 4],
+        &mut [PassiveRow::BLANK; 4],
         &mut out,
     );
     assert_eq!(rt; answer, Err(Refusal::WorkTable));
@@ -65,7 +53,7 @@ fn places_and_tables(rt: HostRuntime) -> Result<(), Fail> {
         commands,
         terms,
         &mut rows,
-        &mut [BLANK_TERM; 10],
+        &mut [PassiveTermRow::BLANK; 10],
     );
     assert_eq!(rt; answer, Err(Refusal::WorkTable));
     assert_eq!(rt; store.count(), 2);
@@ -79,20 +67,30 @@ fn places_and_tables(rt: HostRuntime) -> Result<(), Fail> {
 // A condition over flags: operation 15 is yes for any two flags, and there is no operation 16.
 #[test]
 fn flags(rt: HostRuntime) -> Result<(), Fail> {
-    let mut rows = [BLANK_ROW; 1];
-    let mut out = [BLANK_TERM; 5];
-    let commands = [row(1, 0, 0, 5, 0)];
-    let terms = [item(2, 0), item(2, 0), item(2, 0), item(3, 15), item(3, 15)];
+    let mut rows = [PassiveRow::BLANK; 1];
+    let mut out = [PassiveTermRow::BLANK; 5];
+    let commands = [command_row!(assert term 0 + 5)];
+    let terms = [
+        term_row!(variable 0),
+        term_row!(variable 0),
+        term_row!(variable 0),
+        term_row!(operation 15),
+        term_row!(operation 15),
+    ];
     let values = vec![in rt.alloc(); Flag(true); 8]?;
     let mut store: Evaluator<Flag> = Evaluator::new(values, 1);
     let answer = make_condition(&mut store, 1, &commands, &terms, &mut rows, &mut out);
     assert!(rt; answer.is_ok());
     assert_eq!(rt; store.value(Node(8)), Ok(Flag(true)));
-    let unknown = [item(2, 0), item(2, 0), item(3, 16)];
+    let unknown = [
+        term_row!(variable 0),
+        term_row!(variable 0),
+        term_row!(operation 16),
+    ];
     let answer = make_condition(
         &mut store,
         1,
-        &[row(1, 0, 0, 3, 0)],
+        &[command_row!(assert term 0 + 3)],
         &unknown,
         &mut rows,
         &mut out,
@@ -104,12 +102,12 @@ fn flags(rt: HostRuntime) -> Result<(), Fail> {
 // The same tables filed again, changed in place: the first entry still says what it said.
 #[test]
 fn changed_in_place(rt: HostRuntime) -> Result<(), Fail> {
-    let mut rows = [BLANK_ROW; 5];
-    let mut out = [BLANK_TERM; 11];
-    let store: TableStore<Number> = TableStore::new(vec![in rt.alloc(); UNUSED; 40]?, 2);
+    let mut rows = [PassiveRow::BLANK; 5];
+    let mut out = [PassiveTermRow::BLANK; 11];
+    let store: TableStore<Number> = TableStore::new(vec![in rt.alloc(); NodeRow::BLANK; 40]?, 2);
     let mut register = Register::new(store, 0);
-    let mut commands = [row(1, 0, 0, 1, 0)];
-    let terms = [item(1, 1)];
+    let mut commands = [command_row!(assert term 0 + 1)];
+    let terms = [term_row!(literal 1)];
     assert!(rt;
         register
             .file(&commands, &terms, &mut rows, &mut out)
@@ -137,9 +135,9 @@ fn changed_in_place(rt: HostRuntime) -> Result<(), Fail> {
 // An entry joined with itself, a join joined, a struck entry in a join.
 #[test]
 fn joins(rt: HostRuntime) -> Result<(), Fail> {
-    let mut rows = [BLANK_ROW; 5];
-    let mut out = [BLANK_TERM; 11];
-    let store: TableStore<Number> = TableStore::new(vec![in rt.alloc(); UNUSED; 60]?, 2);
+    let mut rows = [PassiveRow::BLANK; 5];
+    let mut out = [PassiveTermRow::BLANK; 11];
+    let store: TableStore<Number> = TableStore::new(vec![in rt.alloc(); NodeRow::BLANK; 60]?, 2);
     let mut register = Register::new(store, 1);
     let Routine {
         commands,
@@ -181,10 +179,10 @@ fn joins(rt: HostRuntime) -> Result<(), Fail> {
 // The 64th entry is the last; on a full store the places are tried first.
 #[test]
 fn full(rt: HostRuntime) -> Result<(), Fail> {
-    let mut rows = [BLANK_ROW; 5];
-    let mut out = [BLANK_TERM; 11];
-    let skip = [row(4, 0, 0, 0, 0)];
-    let store: TableStore<Number> = TableStore::new(vec![in rt.alloc(); UNUSED; 65]?, 0);
+    let mut rows = [PassiveRow::BLANK; 5];
+    let mut out = [PassiveTermRow::BLANK; 11];
+    let skip = [command_row!(skip)];
+    let store: TableStore<Number> = TableStore::new(vec![in rt.alloc(); NodeRow::BLANK; 65]?, 0);
     let mut register = Register::new(store, 0);
     assert!(rt; register.file(&skip, &[], &mut rows, &mut out).is_ok());
     for _ in 0..63 {
@@ -196,7 +194,7 @@ fn full(rt: HostRuntime) -> Result<(), Fail> {
         Err(Refusal::Entries)
     );
     assert_eq!(rt; register.store().count(), 66);
-    let store: TableStore<Number> = TableStore::new(vec![in rt.alloc(); UNUSED; 1]?, 0);
+    let store: TableStore<Number> = TableStore::new(vec![in rt.alloc(); NodeRow::BLANK; 1]?, 0);
     let mut register = Register::new(store, 0);
     assert!(rt; register.file(&skip, &[], &mut rows, &mut out).is_ok());
     assert_eq!(rt; register.join(0, 0), Err(Refusal::Places));
@@ -211,17 +209,11 @@ fn full(rt: HostRuntime) -> Result<(), Fail> {
 #[test]
 fn readme(rt: HostRuntime) -> Result<(), Fail> {
     let terms = [
-        TermRow { tag: 2, number: 0 },
-        TermRow { tag: 1, number: 10 },
-        TermRow { tag: 3, number: 3 },
+        term_row!(variable 0),
+        term_row!(literal 10),
+        term_row!(operation LESS),
     ];
-    let commands = [CommandRow {
-        tag: 1,
-        target: 0,
-        from: 0,
-        count: 3,
-        left: 0,
-    }];
+    let commands = [command_row!(assert term 0 + 3)];
     let nodes = vec![in rt.alloc(); NodeRow::BLANK; 100]?;
     let store: TableStore<Number> = TableStore::new(nodes, 1);
     let mut register = Register::new(store, 1);

@@ -3,13 +3,15 @@ ghost use Rattle.std.specs.Prelude.{◌≡◌, ◌^◌, ◌<◌, [], ◌∷◌, 
 ghost use Rattle.routine.specs.Decoding.{decode, verdict};
 ghost use Rattle.worked.specs.Tables.{assign_row};
 
-use crate::shapes::{chains, item, row, sum_of};
+use crate::rows::{item, row};
 use kinds::flags::Flag;
 use kinds::kind::Kind;
 use kinds::numbers::Number;
 use kinds::refusals::Refusal;
 use routine::checks::check;
+use routine::command_row;
 use routine::rows::TermRow;
+use shapes::{SKIP, Shape, fill, fill_sum, skips};
 use std::test::Fail;
 
 // One command row over the terms: a set of v0.
@@ -17,12 +19,12 @@ fn set_to(v: u32, terms: &[TermRow]) -> Result<(), Refusal>
     ensures { length terms.now < 2 ^ 32 → result ≡ verdict (decode v 5 (assign_row 0 0 (length terms.now) ∷ []) terms.now) }
 {
     let count = u32::try_from(terms.len()).unwrap_or(0);
-    check::<Number>(v, &[row(3, 0, 0, count, 0)], terms)
+    check::<Number>(v, &[command_row!(assign 0, term 0 + count)], terms)
 }
 
 #[test]
 fn tables(rt: HostRuntime) -> Result<(), Fail> {
-    let skip = [row(4, 0, 0, 0, 0)];
+    let skip = [SKIP];
     assert_eq!(rt; check::<Number>(32, &skip, &[]), Ok(()));
     assert_eq!(rt; check::<Number>(33, &skip, &[]), Err(Refusal::Limits));
     assert_eq!(rt; check::<Number>(0, &skip, &[]), Ok(()));
@@ -34,14 +36,12 @@ fn tables(rt: HostRuntime) -> Result<(), Fail> {
         check::<Number>(0, &skip, terms.as_slice()),
         Err(Refusal::Limits)
     );
-    let mut rows = chains(rt.alloc(), 32, 16)?;
-    assert_eq!(rt; rows.len(), 1023);
-    assert_eq!(rt; check::<Number>(0, rows.as_slice(), &[]), Ok(()));
-    rows.push(row(4, 0, 0, 0, 0))?;
-    assert_eq!(rt;
-        check::<Number>(0, rows.as_slice(), &[]),
-        Err(Refusal::Limits)
-    );
+    let mut rows = [SKIP; 1023];
+    fill(&mut rows, skips(Shape::Chains { inner: 15 }));
+    assert_eq!(rt; check::<Number>(0, &rows, &[]), Ok(()));
+    let mut rows = [SKIP; 1024];
+    fill(&mut rows, skips(Shape::Chains { inner: 15 }));
+    assert_eq!(rt; check::<Number>(0, &rows, &[]), Err(Refusal::Limits));
     Ok(())
 }
 
@@ -56,13 +56,16 @@ fn tags_and_targets(rt: HostRuntime) {
         check::<Number>(1, &[row(9, 0, 0, 1, 0)], &one),
         Err(Refusal::Tag)
     );
-    assert_eq!(rt; check::<Number>(32, &[row(3, 31, 0, 1, 0)], &one), Ok(()));
     assert_eq!(rt;
-        check::<Number>(32, &[row(3, 32, 0, 1, 0)], &one),
+        check::<Number>(32, &[command_row!(assign 31, term 0 + 1)], &one),
+        Ok(())
+    );
+    assert_eq!(rt;
+        check::<Number>(32, &[command_row!(assign 32, term 0 + 1)], &one),
         Err(Refusal::Target)
     );
     assert_eq!(rt;
-        check::<Number>(0, &[row(3, 0, 0, 1, 0)], &one),
+        check::<Number>(0, &[command_row!(assign 0, term 0 + 1)], &one),
         Err(Refusal::Target)
     );
     assert_eq!(rt;
@@ -101,7 +104,7 @@ fn term_rows(rt: HostRuntime) {
 
 #[test]
 fn operations_of_flags(rt: HostRuntime) {
-    let commands = [row(1, 0, 0, 3, 0)];
+    let commands = [command_row!(assert term 0 + 3)];
     assert_eq!(rt;
         check::<Flag>(0, &commands, &[item(1, 0), item(1, 0), item(3, 15)]),
         Ok(())
@@ -115,14 +118,20 @@ fn operations_of_flags(rt: HostRuntime) {
 #[test]
 fn terms_in_their_table(rt: HostRuntime) {
     let terms = [item(1, 0), item(2, 0), item(3, 0)];
-    assert_eq!(rt; check::<Number>(1, &[row(1, 0, 0, 3, 0)], &terms), Ok(()));
-    assert_eq!(rt; check::<Number>(1, &[row(1, 0, 1, 1, 0)], &terms), Ok(()));
     assert_eq!(rt;
-        check::<Number>(1, &[row(1, 0, 1, 3, 0)], &terms),
+        check::<Number>(1, &[command_row!(assert term 0 + 3)], &terms),
+        Ok(())
+    );
+    assert_eq!(rt;
+        check::<Number>(1, &[command_row!(assert term 1 + 1)], &terms),
+        Ok(())
+    );
+    assert_eq!(rt;
+        check::<Number>(1, &[command_row!(assert term 1 + 3)], &terms),
         Err(Refusal::Term)
     );
     assert_eq!(rt;
-        check::<Number>(1, &[row(1, 0, 3, 0, 0)], &terms),
+        check::<Number>(1, &[command_row!(assert term 3 + 0)], &terms),
         Err(Refusal::Term)
     );
     assert_eq!(rt;
@@ -140,75 +149,78 @@ fn terms_in_their_table(rt: HostRuntime) {
 }
 
 #[test]
-fn waiting_values(rt: HostRuntime) -> Result<(), Fail> {
-    assert_eq!(rt; set_to(1, sum_of(rt.alloc(), 16)?.as_slice()), Ok(()));
-    assert_eq!(rt;
-        set_to(1, sum_of(rt.alloc(), 17)?.as_slice()),
-        Err(Refusal::Term)
-    );
-    Ok(())
+fn waiting_values(rt: HostRuntime) {
+    let mut sum = [item(1, 1); 31];
+    fill_sum(&mut sum);
+    assert_eq!(rt; set_to(1, &sum), Ok(()));
+    let mut sum = [item(1, 1); 33];
+    fill_sum(&mut sum);
+    assert_eq!(rt; set_to(1, &sum), Err(Refusal::Term));
 }
 
 #[test]
-fn parts(rt: HostRuntime) -> Result<(), Fail> {
-    let skip = row(4, 0, 0, 0, 0);
+fn parts(rt: HostRuntime) {
     assert_eq!(rt;
-        check::<Number>(0, &[row(6, 0, 0, 0, 0)], &[]),
+        check::<Number>(0, &[command_row!(sequence left 0)], &[]),
         Err(Refusal::Parts)
     );
     assert_eq!(rt;
-        check::<Number>(0, &[skip, row(7, 0, 0, 0, 0)], &[]),
+        check::<Number>(0, &[SKIP, command_row!(choice left 0)], &[]),
         Err(Refusal::Parts)
     );
     assert_eq!(rt;
-        check::<Number>(0, &[skip, skip, row(8, 9, 9, 9, 0)], &[]),
+        check::<Number>(0, &[SKIP, SKIP, row(8, 9, 9, 9, 0)], &[]),
         Ok(())
     );
     assert_eq!(rt;
-        check::<Number>(0, &[skip, skip, row(6, 9, 9, 9, 1)], &[]),
+        check::<Number>(0, &[SKIP, SKIP, row(6, 9, 9, 9, 1)], &[]),
         Err(Refusal::Parts)
     );
     assert_eq!(rt;
-        check::<Number>(0, &[skip, skip, skip, row(6, 9, 9, 9, 0)], &[]),
+        check::<Number>(0, &[SKIP, SKIP, SKIP, row(6, 9, 9, 9, 0)], &[]),
         Err(Refusal::Parts)
     );
     assert_eq!(rt;
-        check::<Number>(0, &[skip, skip, row(6, 9, 9, 9, u32::MAX)], &[]),
+        check::<Number>(0, &[SKIP, SKIP, row(6, 9, 9, 9, u32::MAX)], &[]),
         Err(Refusal::Parts)
     );
-    assert_eq!(rt;
-        check::<Number>(0, chains(rt.alloc(), 1, 64)?.as_slice(), &[]),
-        Ok(())
-    );
-    assert_eq!(rt;
-        check::<Number>(0, chains(rt.alloc(), 1, 65)?.as_slice(), &[]),
-        Err(Refusal::Parts)
-    );
-    Ok(())
+    let mut rows = [SKIP; 127];
+    fill(&mut rows, skips(Shape::Chains { inner: 63 }));
+    assert_eq!(rt; check::<Number>(0, &rows, &[]), Ok(()));
+    let mut rows = [SKIP; 129];
+    fill(&mut rows, skips(Shape::Chains { inner: 64 }));
+    assert_eq!(rt; check::<Number>(0, &rows, &[]), Err(Refusal::Parts));
 }
 
 #[test]
 fn order_of_refusals(rt: HostRuntime) {
-    let skip = row(4, 0, 0, 0, 0);
-    assert_eq!(rt; check::<Number>(0, &[skip, skip], &[]), Err(Refusal::Whole));
+    assert_eq!(rt; check::<Number>(0, &[SKIP, SKIP], &[]), Err(Refusal::Whole));
     assert_eq!(rt;
         check::<Number>(33, &[row(9, 0, 0, 0, 0)], &[]),
         Err(Refusal::Limits)
     );
     assert_eq!(rt;
-        check::<Number>(1, &[row(3, 1, 0, 0, 0)], &[]),
+        check::<Number>(1, &[command_row!(assign 1, term 0 + 0)], &[]),
         Err(Refusal::Target)
     );
     assert_eq!(rt;
-        check::<Number>(1, &[row(1, 0, 0, 0, 0), row(9, 0, 0, 0, 0)], &[]),
+        check::<Number>(
+            1,
+            &[command_row!(assert term 0 + 0), row(9, 0, 0, 0, 0)],
+            &[]
+        ),
         Err(Refusal::Term)
     );
     assert_eq!(rt;
-        check::<Number>(1, &[skip, row(6, 0, 0, 0, 0), row(9, 0, 0, 0, 0)], &[]),
+        check::<Number>(
+            1,
+            &[SKIP, command_row!(sequence left 0), row(9, 0, 0, 0, 0)],
+            &[]
+        ),
         Err(Refusal::Parts)
     );
     assert_eq!(rt;
-        check::<Number>(1, &[skip, skip, row(9, 0, 0, 0, 0)], &[]),
+        check::<Number>(1, &[SKIP, SKIP, row(9, 0, 0, 0, 0)], &[]),
         Err(Refusal::Tag)
     );
 }

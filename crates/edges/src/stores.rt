@@ -9,17 +9,10 @@ use kinds::numbers::Number;
 use kinds::refusals::Refusal;
 use std::test::Fail;
 
-const UNUSED: NodeRow = NodeRow {
-    tag: 0,
-    operation: 0,
-    first: 0,
-    second: 0,
-};
-
 // Each refusal comes before the next, and leaves the store as it was.
 #[test]
 fn table_refusals(rt: HostRuntime) -> Result<(), Fail> {
-    let mut store: TableStore<Number> = TableStore::new(vec![in rt.alloc(); UNUSED; 1]?, 2);
+    let mut store: TableStore<Number> = TableStore::new(vec![in rt.alloc(); NodeRow::BLANK; 1]?, 2);
     assert_eq!(rt; store.operation(5, Node(2), Node(0)), Err(Refusal::Term));
     assert_eq!(rt;
         store.operation(4, Node(2), Node(0)),
@@ -36,7 +29,7 @@ fn table_refusals(rt: HostRuntime) -> Result<(), Fail> {
 // The rows given are exactly enough.
 #[test]
 fn table_rows(rt: HostRuntime) -> Result<(), Fail> {
-    let mut store: TableStore<Flag> = TableStore::new(vec![in rt.alloc(); UNUSED; 2]?, 0);
+    let mut store: TableStore<Flag> = TableStore::new(vec![in rt.alloc(); NodeRow::BLANK; 2]?, 0);
     assert_eq!(rt; store.capacity(), 4);
     assert_eq!(rt; store.operation(15, Node(0), Node(1)), Ok(Node(2)));
     assert_eq!(rt; store.not(Node(2)), Ok(Node(3)));

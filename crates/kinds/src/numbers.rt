@@ -6,6 +6,18 @@ use crate::kind::Kind;
 #[derive(Clone, Copy, Debug, PartialEq, Eq)]
 pub struct Number(pub i32);
 
+// The operations.
+
+pub const PLUS: u16 = 0;
+
+pub const MINUS: u16 = 1;
+
+pub const TIMES: u16 = 2;
+
+pub const LESS: u16 = 3;
+
+pub const EQUAL: u16 = 4;
+
 impl Kind for Number {
     ghost kind = { number_kind };
 
@@ -35,11 +47,11 @@ impl Kind for Number {
 
     fn operate(op: u16, p: Number, q: Number) -> Number {
         match op {
-            0 => Number(p.0.wrapping_add(q.0)),
-            1 => Number(p.0.wrapping_sub(q.0)),
-            2 => Number(p.0.wrapping_mul(q.0)),
-            3 => Number(i32::from(p.0 < q.0)),
-            4 => Number(i32::from(p.0 == q.0)),
+            PLUS => Number(p.0.wrapping_add(q.0)),
+            MINUS => Number(p.0.wrapping_sub(q.0)),
+            TIMES => Number(p.0.wrapping_mul(q.0)),
+            LESS => Number(i32::from(p.0 < q.0)),
+            EQUAL => Number(i32::from(p.0 == q.0)),
             _ => Number(0),
         }
     }

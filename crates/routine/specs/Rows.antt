@@ -1,5 +1,5 @@
 -- What a row says by its numbers.
-use Rattle.std.specs.Prelude.{ℕ, Bool, true, false, cond, Some, None, Ok, Err, Option, Result, ◌==◌}
+use Rattle.std.specs.Prelude.{ℕ, Bool, true, false, cond, Some, None, Ok, Err, Option, Result, List, codes, ◌==◌}
 use Rattle.kinds.specs.declared.numbered.Variable.{Variable}
 use Rattle.kinds.specs.declared.refusals.Refusal.{Refusal}
 use Rattle.kinds.specs.declared.refusals.Refusal.TheVariants.{Tag as UnknownTag}
@@ -53,3 +53,9 @@ tells_term (Ok Skip) = false
 tells_term (Ok Raise) = false
 tells_term (Ok (Join j)) = false
 tells_term (Err e) = false
+
+-- what a joint is called
+abbrev pub joint_name : Joint → List ℕ
+joint_name Sequence = codes "sequence"
+joint_name Choice = codes "choice"
+joint_name Catch = codes "catch"

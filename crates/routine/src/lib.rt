@@ -4,4 +4,5 @@
 
 pub mod checks;
 pub mod limits;
+mod macros;
 pub mod rows;

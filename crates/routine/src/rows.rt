@@ -1,9 +1,11 @@
 // The rows of a routine, raw as callers pass them, and what they say.
-ghost use Rattle.std.specs.Prelude.{◌≡◌};
-ghost use Rattle.routine.specs.Rows.{tag_of, joint_of, tells_term, item};
+ghost use Rattle.std.specs.Prelude.{◌≡◌, Some};
+ghost use Rattle.routine.specs.Rows.{tag_of, joint_of, tells_term, item, joint_name};
+ghost use Rattle.routine.specs.Standing.{joint_tag};
 
 use kinds::numbered::Variable;
 use kinds::refusals::Refusal;
+use std::fmt;
 
 // A row of a postfix term. Tags: 1 literal, 2 variable, 3 operation.
 #[derive(Clone, Copy, Debug, PartialEq, Eq)]
@@ -38,6 +40,31 @@ pub enum Joint {
     Sequence,
     Choice,
     Catch,
+}
+
+// The tag of a row that joins.
+impl From<Joint> for u32 {
+    ghost from_gives = { λ joint number. number ≡ joint_tag joint };
+
+    fn from(joint: Joint) -> u32 {
+        match joint {
+            Joint::Sequence => 6,
+            Joint::Choice => 7,
+            Joint::Catch => 8,
+        }
+    }
+}
+
+impl fmt::Display for Joint {
+    ghost output = { λ joint. Some (joint_name joint) };
+
+    fn fmt<W: fmt::Write>(&self, f: &mut fmt::Formatter<W>) -> fmt::Result {
+        f.write_str(match self {
+            Joint::Sequence => "sequence",
+            Joint::Choice => "choice",
+            Joint::Catch => "catch",
+        })
+    }
 }
 
 // What a command row is.

@@ -6,38 +6,9 @@ ghost use Rattle.std.specs.Prelude.{◌≡◌, Ok};
 ghost use Rattle.routine.specs.Decoding.{decode};
 ghost use Rattle.samples.specs.Sample.{sample_routine};
 
+use kinds::numbers::{EQUAL, LESS, MINUS};
 use routine::rows::{CommandRow, TermRow};
-
-const MINUS: u16 = 1;
-
-const LESS: u16 = 3;
-
-const EQUAL: u16 = 4;
-
-const ASSERT: u32 = 1;
-
-const ASSUME: u32 = 2;
-
-const ASSIGN: u32 = 3;
-
-const SEQUENCE: u32 = 6;
-
-const CHOICE: u32 = 7;
-
-// A term row.
-macro_rules! item {
-    (literal $number:expr) => { TermRow { tag: 1, number: $number } };
-    (variable $number:expr) => { TermRow { tag: 2, number: $number } };
-    (operation $number:expr) => { TermRow { tag: 3, number: $number } };
-}
-
-// A command row: one that has a term, or one that joins the two parts before it.
-macro_rules! row {
-    ($tag:ident $target:literal, term $from:literal + $count:literal) => {
-        CommandRow { tag: $tag, target: $target, from: $from, count: $count, left: 0 }
-    };
-    ($tag:ident, left $left:literal) => { CommandRow { tag: $tag, target: 0, from: 0, count: 0, left: $left } };
-}
+use routine::{command_row, term_row};
 
 #[derive(Drop)]
 pub struct Sample {
@@ -51,47 +22,47 @@ pub fn make_sample() -> Sample
 {
     Sample {
         commands: [
-            row!(ASSUME 0, term 0 + 3),
-            row!(ASSIGN 0, term 5 + 3),
-            row!(SEQUENCE, left 0),
-            row!(ASSERT 0, term 8 + 3),
-            row!(SEQUENCE, left 2),
-            row!(ASSUME 0, term 0 + 5),
-            row!(CHOICE, left 4),
-            row!(ASSUME 0, term 11 + 3),
-            row!(ASSIGN 1, term 16 + 3),
-            row!(SEQUENCE, left 7),
-            row!(ASSUME 0, term 11 + 5),
-            row!(CHOICE, left 9),
-            row!(SEQUENCE, left 6),
-            row!(ASSERT 0, term 0 + 5),
-            row!(SEQUENCE, left 12),
+            command_row!(assume term 0 + 3),
+            command_row!(assign 0, term 5 + 3),
+            command_row!(sequence left 0),
+            command_row!(assert term 8 + 3),
+            command_row!(sequence left 2),
+            command_row!(assume term 0 + 5),
+            command_row!(choice left 4),
+            command_row!(assume term 11 + 3),
+            command_row!(assign 1, term 16 + 3),
+            command_row!(sequence left 7),
+            command_row!(assume term 11 + 5),
+            command_row!(choice left 9),
+            command_row!(sequence left 6),
+            command_row!(assert term 0 + 5),
+            command_row!(sequence left 12),
         ],
         terms: [
             // (v0 < 0) = 0
-            item!(variable 0),
-            item!(literal 0),
-            item!(operation LESS),
-            item!(literal 0),
-            item!(operation EQUAL),
+            term_row!(variable 0),
+            term_row!(literal 0),
+            term_row!(operation LESS),
+            term_row!(literal 0),
+            term_row!(operation EQUAL),
             // 0 - v0
-            item!(literal 0),
-            item!(variable 0),
-            item!(operation MINUS),
+            term_row!(literal 0),
+            term_row!(variable 0),
+            term_row!(operation MINUS),
             // 0 < v0
-            item!(literal 0),
-            item!(variable 0),
-            item!(operation LESS),
+            term_row!(literal 0),
+            term_row!(variable 0),
+            term_row!(operation LESS),
             // (0 < v1) = 0
-            item!(literal 0),
-            item!(variable 1),
-            item!(operation LESS),
-            item!(literal 0),
-            item!(operation EQUAL),
+            term_row!(literal 0),
+            term_row!(variable 1),
+            term_row!(operation LESS),
+            term_row!(literal 0),
+            term_row!(operation EQUAL),
             // v1 - 1
-            item!(variable 1),
-            item!(literal 1),
-            item!(operation MINUS),
+            term_row!(variable 1),
+            term_row!(literal 1),
+            term_row!(operation MINUS),
         ],
     }
 }

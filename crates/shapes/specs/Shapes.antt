@@ -1,10 +1,12 @@
 -- Routines of a wanted shape, row by row. A command's rows are those of its left part, those of its right part, and then its own; so a
 -- joined row i has its right part before it, ending at row i - 1, and it is enough to say where its left part ends.
-use Rattle.std.specs.Prelude.{ℕ, ◌+◌, ◌-◌, ◌*◌, ◌/◌, ◌%◌, cond, List, [], ◌∷◌, Some, None, Option, ◌==◌, nat_le, nat_lt}
+use Rattle.std.specs.Prelude.{ℕ, ◌+◌, ◌-◌, ◌*◌, ◌/◌, ◌%◌, cond, List, [], ◌∷◌, codes, Some, None, Option, ◌==◌, nat_le, nat_lt}
 use Rattle.routine.specs.declared.rows.TermRow.{TermRow}
 use Rattle.routine.specs.declared.rows.CommandRow.{CommandRow}
+use Rattle.routine.specs.declared.rows.Joint.TheVariants.{Sequence}
+use Rattle.routine.specs.Standing.{joint_tag}
 use Rattle.shapes.specs.declared.Shape.{Shape}
-use Rattle.shapes.specs.declared.Shape.TheVariants.{Combs, Tree}
+use Rattle.shapes.specs.declared.Shape.TheVariants.{Combs, Chains, Tree}
 use Rattle.shapes.specs.declared.Pattern.{Pattern}
 use Rattle.worked.specs.Tables.{literal_row, operation_row, skip_row, joint_command}
 
@@ -47,9 +49,30 @@ combs_left outer inner i =
     (cond (nat_le k inner) None (Some (i / size * size + (2 * inner - k))))
     (Some ((outer - (i - combs)) * size - 1))
 
+-- Chains. One of n + 1 single commands is its first command, and then each other one with a joined row behind it, which has all rows before
+-- that command to the left. Such chains, of inner + 1 commands each, are joined in the same way.
+
+-- The first chain is `size` rows, each other one its rows and the row that joins it. Row i is row k of its chain: the commands of a chain
+-- are row 0 and the odd rows.
+abbrev pub chains_left : ℕ → ℕ → Option ℕ
+chains_left inner i =
+    let size = 2 * inner + 1 in
+    let k = cond (nat_lt i size) i ((i - size) % (size + 1)) in
+    cond (k == size) (Some (i - (size + 1)))
+    (cond (k == 0) None
+    (cond (k % 2 == 1) None
+    (Some (i - 2))))
+
 abbrev pub left_of : Shape → ℕ → Option ℕ
 left_of (Combs outer inner) i = combs_left outer inner i
+left_of (Chains inner) i = chains_left inner i
 left_of Tree i = tree_left i
+
+-- what a shape is called
+abbrev pub shape_name : Shape → List ℕ
+shape_name (Combs outer inner) = codes "combs"
+shape_name (Chains inner) = codes "chains"
+shape_name Tree = codes "trees"
 
 -- the variables are assigned to in turn
 abbrev pub target_at : ℕ → ℕ → ℕ
@@ -59,7 +82,7 @@ target_at variables i = cond (variables == 0) 0 (i % variables)
 abbrev pub row_of : Pattern → ℕ → Option ℕ → CommandRow
 row_of p i None =
     record { tag = p.single.tag; target = target_at p.variables i; from = p.single.from; count = p.single.count; left = p.single.left }
-row_of p i (Some left) = joint_command p.joint left
+row_of p i (Some left) = joint_command (joint_tag p.joint) left
 
 -- row i of a routine
 abbrev pub row_at : Pattern → ℕ → CommandRow
@@ -67,7 +90,7 @@ row_at p i = row_of p i (left_of p.shape i)
 
 -- skips in sequence
 abbrev pub skips : Shape → Pattern
-skips shape = record { shape = shape; joint = 6; single = skip_row; variables = 0 }
+skips shape = record { shape = shape; joint = Sequence; single = skip_row; variables = 0 }
 
 -- row k of a term of n rows: literals 1, the middle row the last of them, and then additions
 abbrev pub sum_row : ℕ → ℕ → TermRow

@@ -2,20 +2,26 @@
 
 #![tactic(auto)]
 
-ghost use Rattle.std.specs.Prelude.{◌≡◌, ℕ, ◌%◌, ◌<◌, length, slice_index_or};
+ghost use Rattle.std.specs.Prelude.{◌≡◌, Some, ℕ, ◌%◌, ◌<◌, length, slice_index_or};
 ghost use Rattle.shapes.specs.declared.Shape.TheVariants.{Combs};
 ghost use Rattle.worked.specs.Tables.{skip_row, literal_row};
-ghost use Rattle.shapes.specs.Shapes.{in_half, tree_rows, tree_left, combs_left, left_of, target_at, row_at, skips, sum_row};
+ghost use Rattle.shapes.specs.Shapes.{in_half, tree_rows, tree_left, combs_left, chains_left, left_of, shape_name, target_at, row_at, skips, sum_row};
 
-use routine::rows::{CommandRow, TermRow};
+use kinds::numbers::PLUS;
+use routine::rows::{CommandRow, Joint, TermRow};
+use routine::{command_row, term_row};
+use std::fmt;
 
-// How the single commands of a routine are joined. Both shapes say of any number of rows what they are, so a table is to have as many as
+// How the single commands of a routine are joined. All shapes say of any number of rows what they are, so a table is to have as many as
 // a whole routine takes: rows behind its last belong to no routine.
 #[derive(Clone, Copy)]
 pub enum Shape {
     // `outer + 1` combs in one comb. A comb joins its last two parts, then the part before with that, and so on to its first: the inner
     // combs have `inner + 1` single commands each. (outer + 1) * (2 * inner + 1) + outer rows, of depth outer + inner + 1.
     Combs { outer: u8, inner: u8 },
+    // Chains of `inner + 1` single commands each, in one chain. A chain joins its first two parts, then that with the third, and so on to
+    // its last. Of n + 1 chains n * (2 * inner + 2) + 2 * inner + 1 rows, of depth n + inner + 1.
+    Chains { inner: u8 },
     // The shallowest: each joined row has parts of the same size. 2^h - 1 rows of depth h, for h up to 10.
     Tree,
 }
@@ -30,23 +36,17 @@ pub fn comb(joined: u8) -> Shape
     }
 }
 
-// A routine: its shape, the tag of its joined rows, and the single command that it repeats, with the variables v0, v1 .. as its targets
+// A routine: its shape, what joins its parts, and the single command that it repeats, with the variables v0, v1 .. as its targets
 // in turn.
 #[derive(Clone, Copy)]
 pub struct Pattern {
     pub shape: Shape,
-    pub joint: u32,
+    pub joint: Joint,
     pub single: CommandRow,
     pub variables: u32,
 }
 
-pub const SKIP: CommandRow = CommandRow {
-    tag: 4,
-    target: 0,
-    from: 0,
-    count: 0,
-    left: 0,
-};
+pub const SKIP: CommandRow = command_row!(skip);
 
 // Skips in sequence.
 pub fn skips(shape: Shape) -> Pattern
@@ -54,7 +54,7 @@ pub fn skips(shape: Shape) -> Pattern
 {
     Pattern {
         shape,
-        joint: 6,
+        joint: Joint::Sequence,
         single: SKIP,
         variables: 0,
     }
@@ -74,6 +74,7 @@ fn in_half(size: u32, n: u32) -> u32
 }
 
 // How many rows of a perfect tree the part takes that ends at its n-th row.
+#[tactic(auto, using(crate::proofs::Trees::part_there, crate::proofs::Trees::part_smaller), unfolding(crate::specs::Shapes::tree_rows))]
 fn tree_rows(n: u32) -> u32
     ensures { result ≡ tree_rows n }
 {
@@ -117,6 +118,22 @@ fn combs_left(outer: u8, inner: u8, i: u16) -> Option<u32>
     Some((outer.saturating_sub(joined) * size).saturating_sub(1))
 }
 
+// Where the left part of row i of a chain of chains ends, if it is joined.
+fn chains_left(inner: u8, i: u16) -> Option<u32>
+    ensures { result ≡ chains_left inner i }
+{
+    let i = i as u32;
+    let size = 2 * inner as u32 + 1;
+    let k = if i < size { i } else { (i - size) % (size + 1) };
+    if k == size {
+        return Some(i.saturating_sub(size + 1));
+    }
+    if k == 0 || k % 2 == 1 {
+        return None;
+    }
+    Some(i.saturating_sub(2))
+}
+
 impl Shape {
     // Where the left part of row i ends, if it is joined.
     fn left(self, i: u16) -> Option<u32>
@@ -124,8 +141,21 @@ impl Shape {
     {
         match self {
             Shape::Combs { outer, inner } => combs_left(outer, inner, i),
+            Shape::Chains { inner } => chains_left(inner, i),
             Shape::Tree => tree_left(i),
         }
+    }
+}
+
+impl fmt::Display for Shape {
+    ghost output = { λ shape. Some (shape_name shape) };
+
+    fn fmt<W: fmt::Write>(&self, f: &mut fmt::Formatter<W>) -> fmt::Result {
+        f.write_str(match self {
+            Shape::Combs { .. } => "combs",
+            Shape::Chains { .. } => "chains",
+            Shape::Tree => "trees",
+        })
     }
 }
 
@@ -150,11 +180,9 @@ impl Pattern {
                 ..self.single
             },
             Some(left) => CommandRow {
-                tag: self.joint,
-                target: 0,
-                from: 0,
-                count: 0,
+                tag: u32::from(self.joint),
                 left,
+                ..SKIP
             },
         }
     }
@@ -165,8 +193,8 @@ pub fn fill(rows: &mut [CommandRow], pattern: Pattern)
     ensures length { length rows.new ≡ length rows.old }
     ensures rows { (k : ℕ) → k < length rows.old → slice_index_or rows.new k skip_row ≡ row_at pattern (k % 65536) }
 {
-    for i in 0..rows.len() {
-        rows[i] = pattern.row((i % 65536) as u16);
+    for (i, row) in rows.iter_mut().enumerate() {
+        *row = pattern.row((i % 65536) as u16);
     }
 }
 
@@ -175,9 +203,9 @@ fn sum_row(rows: usize, i: usize) -> TermRow
     ensures { result ≡ sum_row rows i }
 {
     if i <= rows / 2 {
-        TermRow { tag: 1, number: 1 }
+        term_row!(literal 1)
     } else {
-        TermRow { tag: 3, number: 0 }
+        term_row!(operation PLUS)
     }
 }
 
@@ -186,7 +214,8 @@ pub fn fill_sum(terms: &mut [TermRow])
     ensures length { length terms.new ≡ length terms.old }
     ensures rows { (k : ℕ) → k < length terms.old → slice_index_or terms.new k (literal_row 0) ≡ sum_row (length terms.old) k }
 {
-    for i in 0..terms.len() {
-        terms[i] = sum_row(terms.len(), i);
+    let rows = terms.len();
+    for (i, term) in terms.iter_mut().enumerate() {
+        *term = sum_row(rows, i);
     }
 }

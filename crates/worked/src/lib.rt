@@ -6,47 +6,9 @@ ghost use Rattle.worked.specs.Tables.{commands_1, terms_1, commands_2, terms_2, 
 ghost use Rattle.worked.specs.Tabled.{Tabled};
 ghost use Rattle.worked.specs.Worked.{WorkedOut};
 
+use kinds::numbers::{EQUAL, LESS, MINUS, PLUS};
 use routine::rows::{CommandRow, TermRow};
-
-const PLUS: u16 = 0;
-
-const MINUS: u16 = 1;
-
-const LESS: u16 = 3;
-
-const EQUAL: u16 = 4;
-
-const ASSERT: u32 = 1;
-
-const ASSUME: u32 = 2;
-
-const ASSIGN: u32 = 3;
-
-const SKIP: u32 = 4;
-
-const RAISE: u32 = 5;
-
-const SEQUENCE: u32 = 6;
-
-const CHOICE: u32 = 7;
-
-const CATCH: u32 = 8;
-
-// A term row.
-macro_rules! item {
-    (literal $number:expr) => { TermRow { tag: 1, number: $number } };
-    (variable $number:expr) => { TermRow { tag: 2, number: $number } };
-    (operation $number:expr) => { TermRow { tag: 3, number: $number } };
-}
-
-// A command row: one that has a term, one that joins the two parts before it, or one that is its tag alone.
-macro_rules! row {
-    ($tag:ident $target:literal, term $from:literal + $count:literal) => {
-        CommandRow { tag: $tag, target: $target, from: $from, count: $count, left: 0 }
-    };
-    ($tag:ident, left $left:literal) => { CommandRow { tag: $tag, target: 0, from: 0, count: 0, left: $left } };
-    ($tag:ident) => { CommandRow { tag: $tag, target: 0, from: 0, count: 0, left: 0 } };
-}
+use routine::{command_row, term_row};
 
 // A routine of v variables.
 #[derive(Clone, Copy)]
@@ -63,24 +25,24 @@ pub fn first() -> Routine
     Routine {
         v: 1,
         commands: &[
-            row!(ASSUME 0, term 0 + 3),
-            row!(ASSIGN 0, term 3 + 3),
-            row!(SEQUENCE, left 0),
-            row!(ASSERT 0, term 6 + 5),
-            row!(SEQUENCE, left 2),
+            command_row!(assume term 0 + 3),
+            command_row!(assign 0, term 3 + 3),
+            command_row!(sequence left 0),
+            command_row!(assert term 6 + 5),
+            command_row!(sequence left 2),
         ],
         terms: &[
-            item!(literal 0),
-            item!(variable 0),
-            item!(operation LESS),
-            item!(variable 0),
-            item!(literal 1),
-            item!(operation MINUS),
-            item!(variable 0),
-            item!(literal 0),
-            item!(operation LESS),
-            item!(literal 0),
-            item!(operation EQUAL),
+            term_row!(literal 0),
+            term_row!(variable 0),
+            term_row!(operation LESS),
+            term_row!(variable 0),
+            term_row!(literal 1),
+            term_row!(operation MINUS),
+            term_row!(variable 0),
+            term_row!(literal 0),
+            term_row!(operation LESS),
+            term_row!(literal 0),
+            term_row!(operation EQUAL),
         ],
     }
 }
@@ -92,19 +54,19 @@ pub fn second() -> Routine
     Routine {
         v: 1,
         commands: &[
-            row!(ASSIGN 0, term 0 + 3),
-            row!(ASSERT 0, term 3 + 5),
-            row!(SEQUENCE, left 0),
+            command_row!(assign 0, term 0 + 3),
+            command_row!(assert term 3 + 5),
+            command_row!(sequence left 0),
         ],
         terms: &[
-            item!(variable 0),
-            item!(literal 1),
-            item!(operation MINUS),
-            item!(variable 0),
-            item!(literal 0),
-            item!(operation LESS),
-            item!(literal 0),
-            item!(operation EQUAL),
+            term_row!(variable 0),
+            term_row!(literal 1),
+            term_row!(operation MINUS),
+            term_row!(variable 0),
+            term_row!(literal 0),
+            term_row!(operation LESS),
+            term_row!(literal 0),
+            term_row!(operation EQUAL),
         ],
     }
 }
@@ -115,7 +77,7 @@ pub fn third() -> Routine
 {
     Routine {
         v: 0,
-        commands: &[row!(RAISE)],
+        commands: &[command_row!(raise)],
         terms: &[],
     }
 }
@@ -127,11 +89,11 @@ pub fn fourth() -> Routine
     Routine {
         v: 0,
         commands: &[
-            row!(RAISE),
-            row!(ASSERT 0, term 0 + 1),
-            row!(SEQUENCE, left 0),
+            command_row!(raise), // the assertion is not reached
+            command_row!(assert term 0 + 1),
+            command_row!(sequence left 0),
         ],
-        terms: &[item!(literal 0)],
+        terms: &[term_row!(literal 0)],
     }
 }
 
@@ -141,8 +103,12 @@ pub fn fifth() -> Routine
 {
     Routine {
         v: 1,
-        commands: &[row!(ASSIGN 0, term 0 + 1), row!(SKIP), row!(CHOICE, left 0)],
-        terms: &[item!(literal 1)],
+        commands: &[
+            command_row!(assign 0, term 0 + 1),
+            command_row!(skip),
+            command_row!(choice left 0),
+        ],
+        terms: &[term_row!(literal 1)],
     }
 }
 
@@ -152,8 +118,12 @@ pub fn sixth() -> Routine
 {
     Routine {
         v: 0,
-        commands: &[row!(RAISE), row!(ASSERT 0, term 0 + 1), row!(CATCH, left 0)],
-        terms: &[item!(literal 0)],
+        commands: &[
+            command_row!(raise),
+            command_row!(assert term 0 + 1),
+            command_row!(catch left 0),
+        ],
+        terms: &[term_row!(literal 0)],
     }
 }
 
@@ -163,7 +133,7 @@ pub fn seventh() -> Routine
 {
     Routine {
         v: 0,
-        commands: &[row!(SKIP)],
+        commands: &[command_row!(skip)],
         terms: &[],
     }
 }
@@ -174,7 +144,7 @@ pub fn eighth() -> Routine
 {
     Routine {
         v: 1,
-        commands: &[row!(ASSERT 0, term 0 + 0)],
+        commands: &[command_row!(assert term 0 + 0)],
         terms: &[],
     }
 }
@@ -185,8 +155,8 @@ pub fn ninth() -> Routine
 {
     Routine {
         v: 1,
-        commands: &[row!(ASSERT 0, term 0 + 1)],
-        terms: &[item!(operation PLUS)],
+        commands: &[command_row!(assert term 0 + 1)],
+        terms: &[term_row!(operation PLUS)],
     }
 }
 
@@ -196,8 +166,8 @@ pub fn tenth() -> Routine
 {
     Routine {
         v: 1,
-        commands: &[row!(ASSIGN 1, term 0 + 1)],
-        terms: &[item!(literal 0)],
+        commands: &[command_row!(assign 1, term 0 + 1)],
+        terms: &[term_row!(literal 0)],
     }
 }
 
@@ -207,7 +177,7 @@ pub fn eleventh() -> Routine
 {
     Routine {
         v: 0,
-        commands: &[row!(SKIP), row!(SKIP)],
+        commands: &[command_row!(skip), command_row!(skip)],
         terms: &[],
     }
 }
@@ -218,12 +188,17 @@ pub fn twelfth() -> Routine
 {
     Routine {
         v: 0,
-        commands: &[row!(SKIP), row!(SKIP), row!(SEQUENCE, left 1)],
+        commands: &[
+            command_row!(skip),
+            command_row!(skip),
+            command_row!(sequence left 1),
+        ],
         terms: &[],
     }
 }
 
 // What the rules say of the twelve.
+#[tactic(auto, using(crate::proofs::Worked::worked_out))]
 pub fn worked_out()
     ensures { WorkedOut }
 {}
