@@ -5,7 +5,8 @@ use Rattle.std.proofs.lemmas.List.{length-set, length-take-le, get_or-set_same, 
 use Rattle.std.proofs.lemmas.Bool.{ne_eqb, cond-false, lt-ltb, ltb-true, ltb-false, cases_Bool}
 use Rattle.kinds.specs.Kind.{KindOf}
 use Rattle.kinds.specs.declared.numbered.Node.{Node}
-use Rattle.formula.specs.Store.{Making, stated, Lawful, Makes}
+use Rattle.formula.specs.declared.stores.Making.{Making}
+use Rattle.formula.specs.Store.{stated, Lawful, Makes}
 use Rattle.formula.specs.Evaluators.{assignment, place_of, node_value, evaluator_meaning, evaluator_steps, ValuePlaced}
 use Rattle.formula.specs.declared.evaluators.Evaluator.{Evaluator}
 use Rattle.formula.specs.CountLaws.{below_counted}

@@ -4,7 +4,8 @@ use Rattle.kinds.specs.Kind.{KindOf}
 use Rattle.kinds.specs.declared.numbered.Node.{Node}
 use Rattle.kinds.specs.declared.refusals.Refusal.{Refusal}
 use Rattle.kinds.specs.declared.refusals.Refusal.TheVariants.{NotInUse}
-use Rattle.formula.specs.Store.{Making, stated, Meaning, capacity_of, below}
+use Rattle.formula.specs.declared.stores.Making.{Making}
+use Rattle.formula.specs.Store.{stated, Meaning, capacity_of, below}
 use Rattle.formula.specs.declared.evaluators.Evaluator.{Evaluator}
 
 module _ {V : Type 0} where

@@ -5,7 +5,9 @@ use Rattle.std.proofs.lemmas.List.{length-set, length-take-le, length_push, get_
 use Rattle.std.proofs.lemmas.Bool.{lt-ltb, ltb-true}
 use Rattle.kinds.specs.Kind.{KindOf}
 use Rattle.kinds.specs.declared.numbered.Node.{Node}
-use Rattle.formula.specs.Store.{Making, make_literal, make_name, make_operation, make_same, make_not, make_and, make_or, stated, Lawful, Makes}
+use Rattle.formula.specs.declared.stores.Making.{Making}
+use Rattle.formula.specs.declared.stores.Making.TheVariants as making
+use Rattle.formula.specs.Store.{stated, Lawful, Makes}
 use Rattle.formula.specs.Tables.{making_of, row_of, with_rows, rows_used, node_values, table_meaning, table_steps}
 use Rattle.formula.specs.declared.tables.NodeRow.{NodeRow}
 use Rattle.formula.specs.declared.tables.TableStore.{TableStore}
@@ -13,13 +15,13 @@ use Rattle.formula.specs.CountLaws.{below_counted}
 
 -- a row tells its call
 making_row : (c : Making) → making_of (row_of c) ≡ c
-making_row (make_literal n) = refl
-making_row (make_name f) = refl
-making_row (make_operation op p q) = refl
-making_row (make_same p q) = refl
-making_row (make_not p) = refl
-making_row (make_and p q) = refl
-making_row (make_or p q) = refl
+making_row (making.Literal n) = refl
+making_row (making.Name f) = refl
+making_row (making.Operation op p q) = refl
+making_row (making.Same p q) = refl
+making_row (making.Not p) = refl
+making_row (making.And p q) = refl
+making_row (making.Or p q) = refl
 
 -- values row by row
 

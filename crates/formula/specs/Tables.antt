@@ -5,7 +5,9 @@ use Rattle.kinds.specs.declared.numbered.Name.{Name}
 use Rattle.kinds.specs.declared.numbered.Node.{Node}
 use Rattle.kinds.specs.declared.refusals.Refusal.{Refusal}
 use Rattle.kinds.specs.declared.refusals.Refusal.TheVariants.{NotInUse}
-use Rattle.formula.specs.Store.{Making, make_literal, make_name, make_operation, make_same, make_not, make_and, make_or, stated, Meaning, unless, free_place, capacity_of, below}
+use Rattle.formula.specs.declared.stores.Making.{Making}
+use Rattle.formula.specs.declared.stores.Making.TheVariants as making
+use Rattle.formula.specs.Store.{stated, Meaning, unless, free_place, capacity_of, below}
 use Rattle.formula.specs.declared.tables.NodeRow.{NodeRow}
 use Rattle.formula.specs.declared.tables.TableStore.{TableStore}
 
@@ -16,13 +18,13 @@ node_row tag operation first second = record { tag = tag; operation = operation;
 
 -- the row of a making call
 abbrev pub row_of : Making → NodeRow
-row_of (make_literal n) = node_row 1 0 n 0
-row_of (make_name f) = node_row 2 0 f.0 0
-row_of (make_operation op p q) = node_row 3 op p.0 q.0
-row_of (make_same p q) = node_row 4 0 p.0 q.0
-row_of (make_not p) = node_row 5 0 p.0 0
-row_of (make_and p q) = node_row 6 0 p.0 q.0
-row_of (make_or p q) = node_row 7 0 p.0 q.0
+row_of (making.Literal n) = node_row 1 0 n 0
+row_of (making.Name f) = node_row 2 0 f.0 0
+row_of (making.Operation op p q) = node_row 3 op p.0 q.0
+row_of (making.Same p q) = node_row 4 0 p.0 q.0
+row_of (making.Not p) = node_row 5 0 p.0 0
+row_of (making.And p q) = node_row 6 0 p.0 q.0
+row_of (making.Or p q) = node_row 7 0 p.0 q.0
 
 abbrev pub first_name : NodeRow → Name
 first_name row = record { 0 = row.first }
@@ -36,13 +38,13 @@ second_node row = record { 0 = row.second }
 -- the making call of a row
 abbrev pub making_of : NodeRow → Making
 making_of row =
-    cond (row.tag == 1) (make_literal row.first)
-    (cond (row.tag == 2) (make_name (first_name row))
-    (cond (row.tag == 3) (make_operation row.operation (first_node row) (second_node row))
-    (cond (row.tag == 4) (make_same (first_node row) (second_node row))
-    (cond (row.tag == 5) (make_not (first_node row))
-    (cond (row.tag == 6) (make_and (first_node row) (second_node row))
-    (make_or (first_node row) (second_node row)))))))
+    cond (row.tag == 1) (making.Literal row.first)
+    (cond (row.tag == 2) (making.Name (first_name row))
+    (cond (row.tag == 3) (making.Operation row.operation (first_node row) (second_node row))
+    (cond (row.tag == 4) (making.Same (first_node row) (second_node row))
+    (cond (row.tag == 5) (making.Not (first_node row))
+    (cond (row.tag == 6) (making.And (first_node row) (second_node row))
+    (making.Or (first_node row) (second_node row)))))))
 
 -- values
 

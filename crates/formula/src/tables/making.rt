@@ -1,15 +1,37 @@
 // The calls of the table store.
 ghost use Rattle.std.specs.Prelude.{◌≡◌};
 ghost use Rattle.formula.specs.Store.{DoneOrRefused, free_place, Fixing};
-ghost use Rattle.formula.specs.Tables.{table_meaning, table_steps, node_row, RowPlaced, combine_refusal, row_asked, RowsStand, SameTable};
+ghost use Rattle.formula.specs.Tables.{table_meaning, table_steps, row_of, RowPlaced, combine_refusal, row_asked, RowsStand, SameTable};
 ghost use Rattle.formula.specs.TableLaws.{table_lawful, table_sound};
 
-use crate::stores::{Store, capacity_of};
+use crate::stores::{Making, Store, capacity_of};
 use crate::tables::{NodeRow, TableStore};
 use kinds::kind::Kind;
 use kinds::numbered::{Name, Node};
 use kinds::refusals::Refusal;
 use std::marker::PhantomData;
+
+impl From<Making> for NodeRow {
+    ghost from_gives = { λ call row. row ≡ row_of call };
+
+    fn from(call: Making) -> NodeRow {
+        let (tag, operation, first, second) = match call {
+            Making::Literal(n) => (1, 0, u32::from(n), 0),
+            Making::Name(f) => (2, 0, u32::from(f.0), 0),
+            Making::Operation(op, p, q) => (3, u32::from(op), p.0, q.0),
+            Making::Same(p, q) => (4, 0, p.0, q.0),
+            Making::Not(p) => (5, 0, p.0, 0),
+            Making::And(p, q) => (6, 0, p.0, q.0),
+            Making::Or(p, q) => (7, 0, p.0, q.0),
+        };
+        NodeRow {
+            tag,
+            operation,
+            first,
+            second,
+        }
+    }
+}
 
 impl<K> TableStore<K> {
     // A store of no nodes but 0 and 1, with a place for each row.
@@ -40,32 +62,27 @@ impl<K> TableStore<K> {
 }
 
 impl<K: Kind> TableStore<K> {
-    // Gives the next node this row.
-    fn place(&mut self, tag: u32, operation: u32, first: u32, second: u32) -> Result<Node, Refusal>
-        ensures { DoneOrRefused (free_place (table_meaning K.kind) self.old) (RowPlaced self.old (node_row tag operation first second)) self.old result self.new }
+    // Gives the next node the row of a call.
+    fn place(&mut self, call: Making) -> Result<Node, Refusal>
+        ensures { DoneOrRefused (free_place (table_meaning K.kind) self.old) (RowPlaced self.old (row_of call)) self.old result self.new }
     {
         if self.count >= self.capacity() {
             return Err(Refusal::Places);
         }
         let node = Node(self.count);
-        self.rows[(node.0 - 2) as usize] = NodeRow {
-            tag,
-            operation,
-            first,
-            second,
-        };
+        self.rows[(node.0 - 2) as usize] = NodeRow::from(call);
         self.count += 1;
         Ok(node)
     }
 
-    // Gives the next node a row of two nodes.
-    fn combine(&mut self, tag: u32, operation: u32, p: Node, q: Node) -> Result<Node, Refusal>
-        ensures { DoneOrRefused (combine_refusal K.kind self.old p q) (RowPlaced self.old (node_row tag operation p.0 q.0)) self.old result self.new }
+    // Gives the next node the row of a call that is of these two nodes.
+    fn combine(&mut self, call: Making, p: Node, q: Node) -> Result<Node, Refusal>
+        ensures { DoneOrRefused (combine_refusal K.kind self.old p q) (RowPlaced self.old (row_of call)) self.old result self.new }
     {
         if p.0 >= self.count || q.0 >= self.count {
             return Err(Refusal::NotInUse);
         }
-        self.place(tag, operation, p.0, q.0)
+        self.place(call)
     }
 }
 
@@ -93,38 +110,37 @@ impl<K: Kind> Store for TableStore<K> {
     }
 
     fn literal(&mut self, n: u16) -> Result<Node, Refusal> {
-        self.place(1, 0, u32::from(n), 0)
+        self.place(Making::Literal(n))
     }
 
     fn name(&mut self, f: Name) -> Result<Node, Refusal> {
-        let name = u32::from(f.0);
-        if name >= self.width {
+        if u32::from(f.0) >= self.width {
             return Err(Refusal::Names);
         }
-        self.place(2, 0, name, 0)
+        self.place(Making::Name(f))
     }
 
     fn operation(&mut self, op: u16, p: Node, q: Node) -> Result<Node, Refusal> {
         if op >= K::ops() {
             return Err(Refusal::Term);
         }
-        self.combine(3, u32::from(op), p, q)
+        self.combine(Making::Operation(op, p, q), p, q)
     }
 
     fn same(&mut self, p: Node, q: Node) -> Result<Node, Refusal> {
-        self.combine(4, 0, p, q)
+        self.combine(Making::Same(p, q), p, q)
     }
 
-    // The second operand is 0, which is a node in use.
+    // The second node is 0, which is in use.
     fn not(&mut self, p: Node) -> Result<Node, Refusal> {
-        self.combine(5, 0, p, Node(0))
+        self.combine(Making::Not(p), p, Node(0))
     }
 
     fn and(&mut self, p: Node, q: Node) -> Result<Node, Refusal> {
-        self.combine(6, 0, p, q)
+        self.combine(Making::And(p, q), p, q)
     }
 
     fn or(&mut self, p: Node, q: Node) -> Result<Node, Refusal> {
-        self.combine(7, 0, p, q)
+        self.combine(Making::Or(p, q), p, q)
     }
 }
