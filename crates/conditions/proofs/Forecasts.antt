@@ -21,7 +21,8 @@ use Rattle.passify.specs.declared.calls.FormMeasures.{FormMeasures}
 use Rattle.passify.specs.Calls.{most_names, form_measures, form_lengths, form_answer, passify_answer, rows_after, terms_after}
 use Rattle.passify.proofs.Parts.{length_layout, length_term_rows}
 use Rattle.passify.proofs.Accepted.{proper}
-use Rattle.formula.specs.Store.{Making, Meaning, Lawful, Makes}
+use Rattle.formula.specs.declared.stores.Making.{Making}
+use Rattle.formula.specs.Store.{Meaning, Lawful, Makes}
 use Rattle.conditions.specs.Asks.{Room, RowsFit, rows_nodes}
 use Rattle.conditions.specs.Made.{filled, RowsMade, rows_done, rows_more, TableMade, ConditionMade}
 use Rattle.conditions.specs.Valued.{RowsUsed, ConditionValued}

@@ -8,7 +8,8 @@ use Rattle.routine.specs.Commands.{Term}
 use Rattle.passive.specs.Passive.{p_stop}
 use Rattle.passive.specs.declared.rows.PassiveTermRow.{PassiveTermRow}
 use Rattle.passive.specs.declared.rows.PassiveRow.{PassiveRow}
-use Rattle.formula.specs.Store.{Making, Meaning}
+use Rattle.formula.specs.declared.stores.Making.{Making}
+use Rattle.formula.specs.Store.{Meaning}
 use Rattle.passive.specs.Rows.{item}
 use Rattle.conditions.specs.Reading.{items, alone, reading, reading_at}
 use Rattle.conditions.specs.Made.{Ends, RowMade}

@@ -6,7 +6,8 @@ use Rattle.kinds.specs.declared.numbered.Node.{Node}
 use Rattle.passive.specs.Layout.{plain_row}
 use Rattle.passive.specs.declared.rows.PassiveTermRow.{PassiveTermRow}
 use Rattle.passive.specs.declared.rows.PassiveRow.{PassiveRow}
-use Rattle.formula.specs.Store.{Making, node_no, Meaning, Lawful, Grown, Makes}
+use Rattle.formula.specs.declared.stores.Making.{Making}
+use Rattle.formula.specs.Store.{node_no, Meaning, Lawful, Grown, Makes}
 use Rattle.conditions.specs.Reading.{items, part, Reading, alone, joins, reading}
 use Rattle.conditions.specs.Made.{Ends, row_ends, filled, ends_at, last_ends, RowMade, RowsMade, rows_done, rows_more}
 use Rattle.conditions.specs.Valued.{EndsUsed, RowsUsed}

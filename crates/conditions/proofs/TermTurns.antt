@@ -8,7 +8,7 @@ use Rattle.routine.specs.declared.rows.Item.TheVariants.{Literal, Reference, Ope
 use Rattle.routine.specs.Commands.{Term}
 use Rattle.routine.specs.Standing.{Workable}
 use Rattle.passive.specs.declared.rows.PassiveTermRow.{PassiveTermRow}
-use Rattle.formula.specs.Store.{Making}
+use Rattle.formula.specs.declared.stores.Making.{Making}
 use Rattle.passive.specs.Rows.{item}
 use Rattle.conditions.specs.Reading.{items}
 use Rattle.conditions.specs.Made.{ItemMade, TermMade, term_done, term_more}

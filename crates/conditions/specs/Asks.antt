@@ -10,22 +10,11 @@ use Rattle.passive.specs.Outcomes.{single_nodes, joint_nodes}
 use Rattle.passive.specs.Uses.{WorkableSingle}
 use Rattle.passive.specs.declared.rows.PassiveTermRow.{PassiveTermRow}
 use Rattle.passive.specs.declared.rows.PassiveRow.{PassiveRow}
-use Rattle.formula.specs.Store.{Making, make_literal, make_name, make_operation, make_same, make_not, make_and, make_or, Meaning, refused_by, node_no}
-use Rattle.conditions.specs.declared.making.Call.{Call}
-use Rattle.conditions.specs.declared.making.Call.TheVariants.{Literal, Named, Operation, Same, Not, And, Or}
+use Rattle.formula.specs.declared.stores.Making.{Making}
+use Rattle.formula.specs.Store.{Meaning, refused_by, node_no}
 use Rattle.conditions.specs.declared.stacks.Stack.{Stack}
 use Rattle.conditions.specs.Reading.{items, part, Reading, alone, joins, reading}
 use Rattle.conditions.specs.Made.{Ends, ends}
-
--- the call that the code passes on
-abbrev pub making : Call → Making
-making (Literal n) = make_literal n
-making (Named f) = make_name f
-making (Operation op p q) = make_operation op p q
-making (Same p q) = make_same p q
-making (Not p) = make_not p
-making (And p q) = make_and p q
-making (Or p q) = make_or p q
 
 -- the call is not refused
 abbrev pub Accepted : {V : Type 0} {S : Type 0} → KindOf V → Meaning V S → S → Making → Type 0

@@ -4,7 +4,7 @@ use Rattle.kinds.specs.declared.numbered.Name.{Name}
 use Rattle.routine.specs.declared.rows.Joint.{Joint}
 use Rattle.routine.specs.declared.rows.Joint.TheVariants.{Sequence, Choice, Catch}
 use Rattle.routine.specs.Commands.{Term}
-use Rattle.passive.specs.Passive.{name, PassiveSingle, p_assert, p_assume, p_let, p_skip, p_raise, p_stop}
+use Rattle.passive.specs.Passive.{PassiveSingle, p_assert, p_assume, p_let, p_skip, p_raise, p_stop}
 use Rattle.passive.specs.Rows.{item}
 use Rattle.passive.specs.declared.rows.PassiveTermRow.{PassiveTermRow}
 use Rattle.passive.specs.declared.rows.PassiveRow.{PassiveRow}

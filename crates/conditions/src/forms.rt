@@ -4,9 +4,9 @@ ghost use Rattle.conditions.specs.Made.{ends_at, last_ends, RowsMade, TableMade}
 ghost use Rattle.conditions.specs.Valued.{RowsUsed};
 ghost use Rattle.conditions.specs.Asks.{Room, ends_of, RowsFit, rows_nodes};
 
-use crate::making::{Call, make};
+use crate::making::make;
 use crate::rows::{NO, row_nodes};
-use formula::stores::Store;
+use formula::stores::{Making, Store};
 use kinds::numbered::Node;
 use passive::rows::{PassiveRow, PassiveTermRow};
 
@@ -60,5 +60,5 @@ pub fn condition_node<S: Store>(
     ensures { TableMade S.steps terms.now rows.old store.old rows.new result store.new }
 {
     let (_, _, wrong) = form_nodes(store, rows, terms);
-    make(store, Call::Not(wrong))
+    make(store, Making::Not(wrong))
 }

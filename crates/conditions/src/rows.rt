@@ -6,9 +6,9 @@ ghost use Rattle.conditions.specs.Made.{OrAndMade, JointMade, RowMade};
 ghost use Rattle.conditions.specs.Valued.{EndsUsed};
 ghost use Rattle.conditions.specs.Asks.{Room, ends_of, reading_nodes, ReadingWorkable};
 
-use crate::making::{Call, make};
+use crate::making::make;
 use crate::terms::term_node;
-use formula::stores::Store;
+use formula::stores::{Making, Store};
 use kinds::numbered::Node;
 use passive::rows::{PassiveRow, PassiveTermRow};
 
@@ -22,8 +22,8 @@ fn or_and<S: Store>(store: &mut S, p: Node, q: Node, r: Node) -> Node
     requires room { Room S.meaning store.old 2 }
     ensures { OrAndMade S.steps store.old p q r store.new result }
 {
-    let both = make(store, Call::And(q, r));
-    make(store, Call::Or(p, both))
+    let both = make(store, Making::And(q, r));
+    make(store, Making::Or(p, both))
 }
 
 fn sequence_nodes<S: Store>(
@@ -36,7 +36,7 @@ fn sequence_nodes<S: Store>(
     requires room { Room S.meaning store.old 5 }
     ensures { JointMade S.steps store.old Sequence (ends_of left) (ends_of right) store.new (ends_of result) }
 {
-    let normal = make(store, Call::And(left.0, right.0));
+    let normal = make(store, Making::And(left.0, right.0));
     let raised = or_and(store, left.1, left.0, right.1);
     let wrong = or_and(store, left.2, left.0, right.2);
     (normal, raised, wrong)
@@ -53,7 +53,7 @@ fn catch_nodes<S: Store>(
     ensures { JointMade S.steps store.old Catch (ends_of left) (ends_of right) store.new (ends_of result) }
 {
     let normal = or_and(store, left.0, left.1, right.0);
-    let raised = make(store, Call::And(left.1, right.1));
+    let raised = make(store, Making::And(left.1, right.1));
     let wrong = or_and(store, left.2, left.1, right.2);
     (normal, raised, wrong)
 }
@@ -68,9 +68,9 @@ fn choice_nodes<S: Store>(
     requires room { Room S.meaning store.old 3 }
     ensures { JointMade S.steps store.old Choice (ends_of left) (ends_of right) store.new (ends_of result) }
 {
-    let normal = make(store, Call::Or(left.0, right.0));
-    let raised = make(store, Call::Or(left.1, right.1));
-    let wrong = make(store, Call::Or(left.2, right.2));
+    let normal = make(store, Making::Or(left.0, right.0));
+    let raised = make(store, Making::Or(left.1, right.1));
+    let wrong = make(store, Making::Or(left.2, right.2));
     (normal, raised, wrong)
 }
 
@@ -91,7 +91,7 @@ pub fn row_nodes<S: Store>(
     match row.tag {
         1 => {
             let normal = term_node(store, terms);
-            let wrong = make(store, Call::Not(normal));
+            let wrong = make(store, Making::Not(normal));
             (normal, NO, wrong)
         }
         2 => (term_node(store, terms), NO, NO),
@@ -101,9 +101,9 @@ pub fn row_nodes<S: Store>(
         7 => choice_nodes(store, left, right),
         8 => catch_nodes(store, left, right),
         9 => {
-            let name = make(store, Call::Named(row.f));
+            let name = make(store, Making::Name(row.f));
             let value = term_node(store, terms);
-            (make(store, Call::Same(name, value)), NO, NO)
+            (make(store, Making::Same(name, value)), NO, NO)
         }
         _ => (NO, NO, NO),
     }

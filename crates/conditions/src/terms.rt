@@ -6,9 +6,9 @@ ghost use Rattle.conditions.specs.Reading.{items};
 ghost use Rattle.conditions.specs.Made.{ItemMade, TermMade};
 ghost use Rattle.conditions.specs.Asks.{waiting, NodesUsed, Room, ItemWorkable, waiting_then};
 
-use crate::making::{Call, make};
+use crate::making::make;
 use crate::stacks::Stack;
-use formula::stores::Store;
+use formula::stores::{Making, Store};
 use kinds::numbered::{Name, Node};
 use passive::rows::PassiveTermRow;
 
@@ -22,12 +22,12 @@ fn row_node<S: Store>(store: &mut S, stack: &mut Stack, row: PassiveTermRow)
     ensures height { stack.new.height ≡ waiting_then (item row) stack.old.height }
 {
     let call = match row.tag {
-        1 => Call::Literal(row.number),
-        2 => Call::Named(Name(row.number)),
+        1 => Making::Literal(row.number),
+        2 => Making::Name(Name(row.number)),
         _ => {
             let q = stack.pop();
             let p = stack.pop();
-            Call::Operation(row.number, p, q)
+            Making::Operation(row.number, p, q)
         }
     };
     let node = make(store, call);
