@@ -7,7 +7,9 @@ use Rattle.kinds.specs.Kind.{KindOf}
 use Rattle.kinds.specs.declared.numbered.Node.{Node}
 use Rattle.kinds.specs.declared.refusals.Refusal.{Refusal}
 use Rattle.kinds.specs.declared.refusals.Refusal.TheVariants.{NotInUse, Struck, Places, Entries}
-use Rattle.formula.specs.Store.{Making, make_and, Meaning, unless, refused_by, DoneOrRefused, node_no}
+use Rattle.formula.specs.declared.stores.Making.{Making}
+use Rattle.formula.specs.declared.stores.Making.TheVariants as making
+use Rattle.formula.specs.Store.{Meaning, unless, refused_by, DoneOrRefused, node_no}
 use Rattle.register.specs.declared.entries.Entry.{Entry}
 use Rattle.register.specs.declared.entries.Answer.TheVariants.{Joined, Marked, Shown, Refused}
 use Rattle.register.specs.declared.registers.Entries.{Entries as Kept}
@@ -75,10 +77,10 @@ module _ {V : Type 0} {S : Type 0} (K : KindOf V) (M : Meaning V S) (steps : S �
 
     -- the entries as they were read, when the store is asked
     module _ (es : List Entry) (same : es ≡ h.entries) (free : join_tests M h.store h.entries j k None ≡ None) (r : Result Node Refusal) (t : S)
-        (asked : DoneOrRefused (refused_by K M h.store (make_and (entry_at es j).node (entry_at es k).node))
-        (steps h.store (make_and (entry_at es j).node (entry_at es k).node)) h.store r t) where
+        (asked : DoneOrRefused (refused_by K M h.store (making.And (entry_at es j).node (entry_at es k).node))
+        (steps h.store (making.And (entry_at es j).node (entry_at es k).node)) h.store r t) where
       abbrev both : List Entry → Making
-      both zs = make_and (entry_at zs j).node (entry_at zs k).node
+      both zs = making.And (entry_at zs j).node (entry_at zs k).node
 
       asked_of : DoneOrRefused (refused_by K M h.store (both h.entries)) (steps h.store (both h.entries)) h.store r t
       asked_of = subst (λ zs. DoneOrRefused (refused_by K M h.store (both zs)) (steps h.store (both zs)) h.store r t) same asked
