@@ -1,7 +1,7 @@
 // A store that keeps a row for each node.
-ghost use Rattle.std.specs.Prelude.{◌≤◌, vec_len};
-ghost use Rattle.formula.specs.Store.{capacity_of};
+ghost use Rattle.std.specs.Prelude.{◌≡◌};
 
+use crate::nodes::Nodes;
 use std::marker::PhantomData;
 
 pub mod making;
@@ -26,13 +26,11 @@ impl NodeRow {
     };
 }
 
-// Node 0 is no and node 1 is yes; node 2 + i was made by row i.
+// Node 0 is no and node 1 is yes; a node from 2 on has the row of the call that made it.
 #[derive(Drop)]
 pub struct TableStore<K> {
-    rows: Vec<NodeRow>,
-    count: u32,
+    nodes: Nodes<NodeRow>,
     width: u32,
     kind: PhantomData<K>,
-    ghost two: { 2 ≤ count },
-    ghost placed: { count ≤ capacity_of (vec_len rows) },
+    ghost all: { nodes.front ≡ 0 },
 }

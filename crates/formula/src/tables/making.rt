@@ -1,10 +1,12 @@
 // The calls of the table store.
 ghost use Rattle.std.specs.Prelude.{◌≡◌};
-ghost use Rattle.formula.specs.Store.{DoneOrRefused, free_place, Fixing};
+ghost use Rattle.formula.specs.Store.{DoneOrRefused, Fixing};
+ghost use Rattle.formula.specs.Nodes.{no_place};
 ghost use Rattle.formula.specs.Tables.{table_meaning, table_steps, row_of, RowPlaced, combine_refusal, row_asked, RowsStand, SameTable};
 ghost use Rattle.formula.specs.TableLaws.{table_lawful, table_sound};
 
-use crate::stores::{Making, Store, capacity_of};
+use crate::nodes::Nodes;
+use crate::stores::{Making, Store};
 use crate::tables::{NodeRow, TableStore};
 use kinds::kind::Kind;
 use kinds::numbered::{Name, Node};
@@ -36,14 +38,13 @@ impl From<Making> for NodeRow {
 impl<K> TableStore<K> {
     // A store of no nodes but 0 and 1, with a place for each row.
     pub fn new(rows: Vec<NodeRow>, width: u32) -> TableStore<K>
-        ensures count { result.count ≡ 2 }
+        ensures count { result.nodes.count ≡ 2 }
         ensures width { result.width ≡ width }
-        ensures rows { result.rows ≡ rows }
+        ensures rows { result.nodes.items ≡ rows }
         ensures fixing { Fixing (SameTable {V = K}) table_steps }
     {
         TableStore {
-            rows,
-            count: 2,
+            nodes: Nodes::new(rows, 0),
             width,
             kind: PhantomData,
         }
@@ -54,32 +55,24 @@ impl<K> TableStore<K> {
         ensures asked { result ≡ row_asked self.now node }
         ensures made { RowsStand K }
     {
-        if node.0 < 2 || node.0 >= self.count {
+        if node.0 < 2 || node.0 >= self.nodes.count {
             return Err(Refusal::NotInUse);
         }
-        Ok(self.rows[(node.0 - 2) as usize])
+        Ok(self.nodes.item(node))
     }
-}
 
-impl<K: Kind> TableStore<K> {
     // Gives the next node the row of a call.
     fn place(&mut self, call: Making) -> Result<Node, Refusal>
-        ensures { DoneOrRefused (free_place (table_meaning K.kind) self.old) (RowPlaced self.old (row_of call)) self.old result self.new }
+        ensures { DoneOrRefused (no_place self.old.nodes) (RowPlaced self.old (row_of call)) self.old result self.new }
     {
-        if self.count >= self.capacity() {
-            return Err(Refusal::Places);
-        }
-        let node = Node(self.count);
-        self.rows[(node.0 - 2) as usize] = NodeRow::from(call);
-        self.count += 1;
-        Ok(node)
+        self.nodes.add(NodeRow::from(call))
     }
 
     // Gives the next node the row of a call that is of these two nodes.
     fn combine(&mut self, call: Making, p: Node, q: Node) -> Result<Node, Refusal>
-        ensures { DoneOrRefused (combine_refusal K.kind self.old p q) (RowPlaced self.old (row_of call)) self.old result self.new }
+        ensures { DoneOrRefused (combine_refusal self.old p q) (RowPlaced self.old (row_of call)) self.old result self.new }
     {
-        if p.0 >= self.count || q.0 >= self.count {
+        if p.0 >= self.nodes.count || q.0 >= self.nodes.count {
             return Err(Refusal::NotInUse);
         }
         self.place(call)
@@ -98,7 +91,7 @@ impl<K: Kind> Store for TableStore<K> {
     ghost sound = { λ s c n t step. table_sound K.kind s c n t step };
 
     fn capacity(&self) -> u32 {
-        capacity_of(self.rows.len())
+        self.nodes.capacity()
     }
 
     fn width(&self) -> u32 {
@@ -106,7 +99,7 @@ impl<K: Kind> Store for TableStore<K> {
     }
 
     fn count(&self) -> u32 {
-        self.count
+        self.nodes.count
     }
 
     fn literal(&mut self, n: u16) -> Result<Node, Refusal> {

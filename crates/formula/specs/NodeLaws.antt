@@ -1,0 +1,17 @@
+-- What adding a node keeps.
+use Rattle.std.specs.Prelude.{◌≡◌, ◌<◌, length, vec_items, vec_len}
+use Rattle.std.proofs.Common.{ap, arith}
+use Rattle.std.proofs.lemmas.List.{length-set}
+use Rattle.kinds.specs.declared.numbered.Node.{Node}
+use Rattle.formula.specs.Nodes.{place_of, room_of, NodeAdded}
+use Rattle.formula.specs.declared.nodes.Nodes.{Nodes}
+
+module _ {T : Type 0} {s t : Nodes T} {x : T} {n : Node} (added : NodeAdded s x n t) where
+  same_length : vec_len t.items ≡ vec_len s.items
+  same_length = omega (arith, s.items.ok.0, t.items.ok.0, ap length added.items, length-set (vec_items s.items) (place_of s s.count) x)
+
+  pub same_room : room_of t ≡ room_of s
+  same_room = omega (arith, same_length, added.front)
+
+  pub place_inside : place_of s s.count < length (vec_items s.items)
+  place_inside = omega (arith, s.items.ok.0, same_length, t.placed, t.within, s.two, added.count, added.front)
