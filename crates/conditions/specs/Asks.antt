@@ -1,5 +1,5 @@
 -- What the making of nodes asks of a store and of rows, so that no call is refused.
-use Rattle.std.specs.Prelude.{◌≡◌, ℕ, zero, suc, ◌+◌, ◌-◌, ◌<◌, ◌≤◌, true, List, [], ◌∷◌, length, None, slice_index_or}
+use Rattle.std.specs.Prelude.{◌≡◌, ℕ, ◌+◌, ◌<◌, ◌≤◌, true, List, [], ◌∷◌, length, None}
 use Rattle.kinds.specs.Kind.{KindOf}
 use Rattle.kinds.specs.declared.numbered.Node.{Node}
 use Rattle.kinds.specs.declared.numbered.Name.{Name}
@@ -11,8 +11,7 @@ use Rattle.passive.specs.Uses.{WorkableSingle}
 use Rattle.passive.specs.declared.rows.PassiveTermRow.{PassiveTermRow}
 use Rattle.passive.specs.declared.rows.PassiveRow.{PassiveRow}
 use Rattle.formula.specs.declared.stores.Making.{Making}
-use Rattle.formula.specs.Store.{Meaning, refused_by, node_no}
-use Rattle.conditions.specs.declared.stacks.Stack.{Stack}
+use Rattle.formula.specs.Store.{Meaning, refused_by}
 use Rattle.conditions.specs.Reading.{items, part, Reading, alone, joins, reading}
 use Rattle.conditions.specs.Made.{Ends, ends}
 
@@ -24,15 +23,6 @@ Accepted K M s c = refused_by K M s c ≡ None
 abbrev pub Room : {V : Type 0} {S : Type 0} → Meaning V S → S → ℕ → Type 0
 Room M s k = M.count s + k ≤ M.capacity s
 
--- the lowest h nodes that wait, the last first
-abbrev pub waiting_in : List Node → ℕ → List Node
-waiting_in slots zero = []
-waiting_in slots (suc h) = slice_index_or slots h node_no ∷ waiting_in slots h
-
--- what waits on the code's stack
-abbrev pub waiting : Stack → List Node
-waiting k = waiting_in k.slots k.height
-
 -- each of the nodes is in use
 abbrev pub NodesUsed : {V : Type 0} {S : Type 0} → Meaning V S → S → List Node → Type 0
 NodesUsed M s [] = Unit {0}
@@ -43,12 +33,6 @@ abbrev pub ItemWorkable : ℕ → ℕ → Item Name → ℕ → Type 0
 ItemWorkable ops width (Literal n) w = w < most_waiting
 ItemWorkable ops width (Reference f) w = (w < most_waiting) × (f.0 < width)
 ItemWorkable ops width (Operation k) w = (2 ≤ w) × (k < ops)
-
--- how many nodes wait after it
-abbrev pub waiting_then : Item Name → ℕ → ℕ
-waiting_then (Literal n) w = w + 1
-waiting_then (Reference f) w = w + 1
-waiting_then (Operation k) w = w - 1
 
 -- the code's three nodes
 abbrev pub ends_of : Node × Node × Node → Ends
