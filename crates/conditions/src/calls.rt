@@ -12,11 +12,9 @@ use formula::stores::Store;
 use kinds::kind::Kind;
 use kinds::numbered::Node;
 use kinds::refusals::Refusal;
-use passify::calls::{FormLengths, FormMeasures, measure, passify};
+use passify::calls::{FormLengths, FormMeasures, MOST_NAMES, measure, passify};
 use passive::rows::{PassiveRow, PassiveTermRow};
 use routine::rows::{CommandRow, TermRow};
-
-const MOST_NAMES: u32 = 4096;
 
 // A condition that was made: its node, the names of the passive form, how many rows of the two tables that takes, and by how much the
 // count of the store rose.
@@ -80,7 +78,7 @@ fn write_form<K: Kind>(
 {
     match passify::<K>(v, commands, terms, rows, out) {
         Ok(form) => form,
-        Err(_) => unreachable(),
+        Err(_) => unreachable!(),
     }
 }
 

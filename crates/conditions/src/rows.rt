@@ -10,7 +10,8 @@ use crate::making::make;
 use crate::terms::term_node;
 use formula::stores::{Making, Store};
 use kinds::numbered::Node;
-use passive::rows::{PassiveRow, PassiveTermRow};
+use passive::rows::{PassiveRow, PassiveTag, PassiveTermRow};
+use routine::rows::Joint;
 
 pub const NO: Node = Node(0);
 
@@ -88,23 +89,23 @@ pub fn row_nodes<S: Store>(
     requires room { Room S.meaning store.old (reading_nodes (reading row (items terms.now))) }
     ensures { RowMade S.steps store.old (reading row (items terms.now)) (ends_of left) (ends_of right) store.new (ends_of result) }
 {
-    match row.tag {
-        1 => {
+    match PassiveTag::try_from(row.tag).unwrap_or(PassiveTag::Stop) {
+        PassiveTag::Assert => {
             let normal = term_node(store, terms);
             let wrong = make(store, Making::Not(normal));
             (normal, NO, wrong)
         }
-        2 => (term_node(store, terms), NO, NO),
-        4 => (YES, NO, NO),
-        5 => (NO, YES, NO),
-        6 => sequence_nodes(store, left, right),
-        7 => choice_nodes(store, left, right),
-        8 => catch_nodes(store, left, right),
-        9 => {
+        PassiveTag::Assume => (term_node(store, terms), NO, NO),
+        PassiveTag::Skip => (YES, NO, NO),
+        PassiveTag::Raise => (NO, YES, NO),
+        PassiveTag::Join(Joint::Sequence) => sequence_nodes(store, left, right),
+        PassiveTag::Join(Joint::Choice) => choice_nodes(store, left, right),
+        PassiveTag::Join(Joint::Catch) => catch_nodes(store, left, right),
+        PassiveTag::Let => {
             let name = make(store, Making::Name(row.f));
             let value = term_node(store, terms);
             (make(store, Making::Same(name, value)), NO, NO)
         }
-        _ => (NO, NO, NO),
+        PassiveTag::Stop => (NO, NO, NO),
     }
 }
