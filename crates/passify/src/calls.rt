@@ -15,7 +15,7 @@ use passive::rows::{PassiveRow, PassiveTermRow};
 use routine::checks::check;
 use routine::rows::{CommandRow, TermRow};
 
-const MOST_NAMES: u32 = 4096;
+pub const MOST_NAMES: u32 = 4096;
 
 // What a routine's passive form and its condition take.
 #[derive(Clone, Copy, Debug, PartialEq, Eq)]
