@@ -32,6 +32,7 @@ fn form_nodes<S: Store>(
     ensures last { ends_of result ≡ last_ends rows.new }
 {
     let mut last = (NO, NO, NO);
+    // By index, since a row takes nodes that were written into earlier ones.
     for i in 0..rows.len() {
         let row = rows[i];
         let first = row.from as usize;
