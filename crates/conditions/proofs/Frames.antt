@@ -2,7 +2,6 @@
 use Rattle.std.proofs.Common.{◌≡◌, ℕ, ◌+◌, ◌<◌, ◌≤◌, Bool, true, List, [], ◌∷◌, ◌++◌, None, Option, refl, ◌∙◌, arith}
 use Rattle.std.proofs.lemmas.Bool.{lt-ltb, and_from}
 use Rattle.kinds.specs.Kind.{KindOf}
-use Rattle.kinds.specs.declared.numbered.Name.{Name}
 use Rattle.kinds.specs.declared.numbered.Node.{Node}
 use Rattle.kinds.specs.declared.refusals.Refusal.{Refusal}
 use Rattle.formula.specs.declared.stores.Making.{Making}
@@ -72,24 +71,8 @@ module _ {V : Type 0} {S : Type 0} (K : KindOf V) (M : Meaning V S) where
   accepted s c o w u l =
       unless_true _ _ _ o (unless_true _ _ _ w (unless_true _ _ _ u (unless_true _ _ _ (lt-ltb (M.count s) (M.capacity s) l) refl)))
 
-  pub literal_accepted : (s : S) (n : ℕ) → Room M s 1 → Accepted K M s (making.Literal n)
-  literal_accepted s n h = accepted s (making.Literal n) refl refl refl (omega (arith, h))
-
-  pub name_accepted : (s : S) (f : Name) → f.0 < M.width s → Room M s 1 → Accepted K M s (making.Name f)
-  name_accepted s f l h = accepted s (making.Name f) refl (lt-ltb f.0 (M.width s) l) refl (omega (arith, h))
-
-  pub operation_accepted : (s : S) (k : ℕ) (p q : Node) → k < K.ops → M.in_use s p ≡ true → M.in_use s q ≡ true → Room M s 1
-      → Accepted K M s (making.Operation k p q)
-  operation_accepted s k p q l u w h = accepted s (making.Operation k p q) (lt-ltb k K.ops l) refl (and_from _ _ u w) (omega (arith, h))
-
   pub same_accepted : (s : S) (p q : Node) → M.in_use s p ≡ true → M.in_use s q ≡ true → Room M s 1 → Accepted K M s (making.Same p q)
   same_accepted s p q u w h = accepted s (making.Same p q) refl refl (and_from _ _ u w) (omega (arith, h))
 
   pub not_accepted : (s : S) (p : Node) → M.in_use s p ≡ true → Room M s 1 → Accepted K M s (making.Not p)
   not_accepted s p u h = accepted s (making.Not p) refl refl u (omega (arith, h))
-
-  pub and_accepted : (s : S) (p q : Node) → M.in_use s p ≡ true → M.in_use s q ≡ true → Room M s 1 → Accepted K M s (making.And p q)
-  and_accepted s p q u w h = accepted s (making.And p q) refl refl (and_from _ _ u w) (omega (arith, h))
-
-  pub or_accepted : (s : S) (p q : Node) → M.in_use s p ≡ true → M.in_use s q ≡ true → Room M s 1 → Accepted K M s (making.Or p q)
-  or_accepted s p q u w h = accepted s (making.Or p q) refl refl (and_from _ _ u w) (omega (arith, h))

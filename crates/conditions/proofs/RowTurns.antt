@@ -110,10 +110,7 @@ module _ {V : Type 0} {S : Type 0} (K : KindOf V) (M : Meaning V S) (steps : S â
         fit : RowFits K.ops (M.width s) terms i row
         fit = (fit_more K.ops (M.width s) terms rows i inside fits).0
 
-        pub term_inside : row.from + row.count â‰¤ length terms
-        term_inside = fit.within
-
-        pub left_inside : row.left < length rows
+        left_inside : row.left < length rows
         left_inside = omega (arith, left_first i row.left said fit.before, inside)
 
         last_used : EndsUsed M s last

@@ -1,10 +1,9 @@
 -- The nodes of a term, row by row.
-use Rattle.std.proofs.Common.{◌≡◌, ℕ, ◌+◌, ◌-◌, ◌<◌, ◌≤◌, List, [], ◌∷◌, length, get_or, drop, sym, refl, ap, ◌∙◌, subst, arith}
-use Rattle.std.proofs.lemmas.List.{drop_more, drop_all}
+use Rattle.std.proofs.Common.{◌≡◌, ℕ, ◌+◌, ◌-◌, ◌<◌, ◌≤◌, List, [], ◌∷◌, length, get_or, drop, sym, ap, ◌∙◌, subst, arith}
+use Rattle.std.proofs.lemmas.List.{drop_more, drop_all, nil_from_length}
 use Rattle.kinds.specs.declared.numbered.Name.{Name}
 use Rattle.kinds.specs.declared.numbered.Node.{Node}
 use Rattle.routine.specs.declared.rows.Item.{Item}
-use Rattle.routine.specs.declared.rows.Item.TheVariants.{Literal, Reference, Operation}
 use Rattle.routine.specs.Commands.{Term}
 use Rattle.routine.specs.Standing.{Workable}
 use Rattle.passive.specs.declared.rows.PassiveTermRow.{PassiveTermRow}
@@ -13,17 +12,10 @@ use Rattle.passive.specs.Rows.{item}
 use Rattle.formula.specs.Store.{node_no}
 use Rattle.conditions.specs.Reading.{items}
 use Rattle.conditions.specs.Made.{ItemMade, literal_made, name_made, operation_made, TermMade, term_done, term_more}
-use Rattle.conditions.specs.Asks.{ItemWorkable}
 
 -- a term over names below the width, where these nodes wait
 abbrev pub WorkableFrom : ℕ → ℕ → List Node → Term Name → Type 0
 WorkableFrom ops width ns t = Workable (λ f. f.0 < width) ops (length ns) t
-
-first_workable : (ops width : ℕ) (ns : List Node) (i : Item Name) (t : Term Name) → WorkableFrom ops width ns (i ∷ t)
-    → ItemWorkable ops width i (length ns)
-first_workable ops width ns (Literal n) t h = h.0
-first_workable ops width ns (Reference f) t h = (h.0, h.1)
-first_workable ops width ns (Operation k) t h = (h.0, h.1)
 
 module _ {S : Type 0} (steps : S → Making → Node → S → Type 0) where
   rest_workable : (ops width : ℕ) {s t : S} {ns ms : List Node} {i : Item Name} (is : Term Name) → ItemMade steps s ns i t ms
@@ -49,19 +41,12 @@ module _ (ops width : ℕ) (rows : List PassiveTermRow) (i : ℕ) where
   next : (ns : List Node) → i < length rows → WorkableFrom ops width ns (items (drop i rows)) → WorkableFrom ops width ns (item (at rows i) ∷ items (drop (i + 1) rows))
   next ns l h = subst (λ rs. WorkableFrom ops width ns (items rs)) (drop_more rows i no_row l) h
 
-  pub next_workable : (ns : List Node) → i < length rows → WorkableFrom ops width ns (items (drop i rows)) → ItemWorkable ops width (item (at rows i)) (length ns)
-  next_workable ns l h = first_workable ops width ns (item (at rows i)) (items (drop (i + 1) rows)) (next ns l h)
-
   pub workable_then : {S : Type 0} (steps : S → Making → Node → S → Type 0) {s t : S} {ns ms : List Node} → i < length rows
       → ItemMade steps s ns (item (at rows i)) t ms → WorkableFrom ops width ns (items (drop i rows)) → WorkableFrom ops width ms (items (drop (i + 1) rows))
   workable_then steps {ns = ns} l made h = rest_workable steps ops width (items (drop (i + 1) rows)) made (next ns l h)
 
   pub one_left : (ns : List Node) → length rows ≤ i → WorkableFrom ops width ns (items (drop i rows)) → length ns ≡ 1
   one_left ns l h = subst (λ rs. WorkableFrom ops width ns (items rs)) (drop_all i rows l) h
-
-none_left : (ns : List Node) → length ns ≡ 0 → ns ≡ []
-none_left [] e = refl
-none_left (n ∷ ns) e = absurd (omega (arith, e))
 
 module _ {S : Type 0} (steps : S → Making → Node → S → Type 0) where
   pub made_more : {s u t : S} {ns ms : List Node} {n : Node} (rows : List PassiveTermRow) (i : ℕ) → i < length rows
@@ -73,4 +58,4 @@ module _ {S : Type 0} (steps : S → Making → Node → S → Type 0) where
       → TermMade steps s ns (items (drop i rows)) s n
   made_none {s = s} {n = n} rows i l ns left popped one =
       subst (λ rs. TermMade steps s ns (items rs) s n) (sym (drop_all i rows l))
-      (subst (λ ks. TermMade steps s ks [] s n) (sym (popped ∙ ap (λ ks. n ∷ ks) (none_left left (omega (arith, one, ap length popped))))) term_done)
+      (subst (λ ks. TermMade steps s ks [] s n) (sym (popped ∙ ap (λ ks. n ∷ ks) (nil_from_length left (omega (arith, one, ap length popped))))) term_done)
