@@ -25,9 +25,9 @@ added_fixed same item h h' = (
 
 pub table_fixing : {V : Type 0} → Fixing (SameTable {V = V}) table_steps
 table_fixing s s' c n n' t t' same h h' =
-    let fixed = added_fixed same.nodes (λ i. row_of c) h.added h'.added in (
+    let fixed = added_fixed same.nodes (λ i. row_of c) h.0 h'.0 in (
       fixed.0,
-      record { nodes = fixed.1; width = h.width ∙ same.width ∙ sym h'.width },
+      record { nodes = fixed.1; width = h.1 ∙ same.width ∙ sym h'.1 },
     )
 
 module _ {V : Type 0} (K : KindOf V) where

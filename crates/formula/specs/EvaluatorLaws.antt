@@ -2,7 +2,7 @@
 use Rattle.std.specs.Prelude.{◌≡◌, ℕ, zero, suc, ◌+◌, ◌-◌, ◌<◌, ◌≤◌, ◌≢◌, length, get_or, take, vec_items, ◌==◌, slice_index_or, slice_set, refl}
 use Rattle.std.proofs.Common.{ap, sym, ◌∙◌, arith}
 use Rattle.std.proofs.lemmas.List.{length-take-le, get_or-set_same, get_or-set_other, take-set-le}
-use Rattle.std.proofs.lemmas.Bool.{ne_eqb, cond-false, lt-ltb, ltb-true}
+use Rattle.std.proofs.lemmas.Bool.{ne_eqb, cond-false, ltb-true}
 use Rattle.kinds.specs.Kind.{KindOf}
 use Rattle.kinds.specs.declared.numbered.Node.{Node}
 use Rattle.formula.specs.declared.stores.Making.{Making}
@@ -11,7 +11,7 @@ use Rattle.formula.specs.Evaluators.{assignment, node_value, evaluator_meaning, 
 use Rattle.formula.specs.declared.evaluators.Evaluator.{Evaluator}
 use Rattle.formula.specs.CountLaws.{below_counted}
 use Rattle.formula.specs.Nodes.{place_of, NodeAdded}
-use Rattle.formula.specs.NodeLaws.{same_room, place_inside}
+use Rattle.formula.specs.NodeLaws.{no_below, yes_below, same_room, place_inside, next_below, still_below}
 
 module _ {V : Type 0} (K : KindOf V) where
   value_placed : (s : Evaluator V) (n : Node) → 2 ≤ n.0 → node_value K s n ≡ slice_index_or (vec_items s.nodes.items) (place_of s.nodes n.0) K.no
@@ -22,8 +22,8 @@ module _ {V : Type 0} (K : KindOf V) where
     counted = below_counted s.nodes.count;
     two = s.nodes.two;
     placed = s.nodes.placed;
-    no_used = lt-ltb 0 s.nodes.count (omega (arith, s.nodes.two));
-    yes_used = lt-ltb 1 s.nodes.count (omega (arith, s.nodes.two));
+    no_used = no_below s.nodes;
+    yes_used = yes_below s.nodes;
     zero_no = λ a h. refl;
     one_yes = λ a h. refl;
     wide = λ a h. ap length h ∙ length-take-le s.nodes.front (vec_items s.nodes.items) (omega (arith, s.nodes.within, s.nodes.items.ok.0));
@@ -67,14 +67,14 @@ module _ {V : Type 0} (K : KindOf V) where
     evaluator_sound =
         let front = same_assignment s v n t step in
         record {
-          used = lt-ltb n.0 t.nodes.count (omega (arith, step.next, step.count));
+          used = next_below step;
           grown = record {
             grows = omega (arith, step.count);
             few = omega (arith, step.count);
             capacity_same = same_room step;
             width_same = step.front;
             covers_same = λ a. (λ h. h ∙ front, λ h. h ∙ sym front);
-            still_used = λ m u. lt-ltb m.0 t.nodes.count (omega (arith, ltb-true m.0 s.nodes.count u, step.count));
+            still_used = still_below step;
             kept = λ m a u h. kept_at s v n t step m.0 (ltb-true m.0 s.nodes.count u);
           };
           as_stated = λ a h. next_value s v n t step ∙ ap (λ b. stated K (node_value K s) b c) (sym h);

@@ -2,7 +2,7 @@
 use Rattle.std.specs.Prelude.{◌≡◌, ℕ, ◌+◌, ◌-◌, ◌<◌, List, [], ◌∷◌, ◌++◌, length, get_or, vec_items, slice_index_or, refl}
 use Rattle.std.proofs.Common.{ap, sym, ◌∙◌, arith}
 use Rattle.std.proofs.lemmas.List.{length-take-le, length_push, get_or_append_left, get_or_push, take_more_set}
-use Rattle.std.proofs.lemmas.Bool.{lt-ltb, ltb-true}
+use Rattle.std.proofs.lemmas.Bool.{ltb-true}
 use Rattle.kinds.specs.Kind.{KindOf}
 use Rattle.kinds.specs.declared.numbered.Node.{Node}
 use Rattle.formula.specs.declared.stores.Making.{Making}
@@ -13,7 +13,7 @@ use Rattle.formula.specs.declared.tables.NodeRow.{NodeRow}
 use Rattle.formula.specs.declared.tables.TableStore.{TableStore}
 use Rattle.formula.specs.CountLaws.{below_counted}
 use Rattle.formula.specs.Nodes.{place_of}
-use Rattle.formula.specs.NodeLaws.{same_room, place_inside}
+use Rattle.formula.specs.NodeLaws.{no_below, yes_below, same_room, place_inside, next_below, still_below}
 
 -- a row tells its call
 making_row : (c : Making) → making_of (row_of c) ≡ c
@@ -63,8 +63,8 @@ module _ {V : Type 0} (K : KindOf V) where
     counted = below_counted s.nodes.count;
     two = s.nodes.two;
     placed = s.nodes.placed;
-    no_used = lt-ltb 0 s.nodes.count (omega (arith, s.nodes.two));
-    yes_used = lt-ltb 1 s.nodes.count (omega (arith, s.nodes.two));
+    no_used = no_below s.nodes;
+    yes_used = yes_below s.nodes;
     zero_no = λ a h. with_kept K a start (rows_used s) 0 (omega arith);
     one_yes = λ a h. with_kept K a start (rows_used s) 1 (omega arith);
     wide = λ a h. h;
@@ -73,10 +73,10 @@ module _ {V : Type 0} (K : KindOf V) where
   module _ (s : TableStore V) (c : Making) (n : Node) (t : TableStore V) (step : table_steps s c n t) where
     more_rows : rows_used t ≡ rows_used s ++ (row_of c ∷ [])
     more_rows =
-        let inside : s.nodes.count - 2 < length (vec_items s.nodes.items) = omega (arith, place_inside step.added) in
-        let more : t.nodes.count - 2 ≡ s.nodes.count - 2 + 1 = omega (arith, s.nodes.two, step.added.count) in
+        let inside : s.nodes.count - 2 < length (vec_items s.nodes.items) = omega (arith, place_inside step.0) in
+        let more : t.nodes.count - 2 ≡ s.nodes.count - 2 + 1 = omega (arith, s.nodes.two, step.0.count) in
         let place : place_of s.nodes s.nodes.count ≡ s.nodes.count - 2 = omega (arith, s.all) in
-        rw (more, step.added.items, place) (take_more_set (vec_items s.nodes.items) (s.nodes.count - 2) (row_of c) inside)
+        rw (more, step.0.items, place) (take_more_set (vec_items s.nodes.items) (s.nodes.count - 2) (row_of c) inside)
 
     more_values : (a : List V) → node_values K t a ≡ node_values K s a ++ (called K a (node_values K s a) c ∷ [])
     more_values a =
@@ -86,19 +86,19 @@ module _ {V : Type 0} (K : KindOf V) where
 
     pub table_sound : Makes K (table_meaning K) s c n t
     table_sound = record {
-      used = lt-ltb n.0 t.nodes.count (omega (arith, step.added.next, step.added.count));
+      used = next_below step.0;
       grown = record {
-        grows = omega (arith, step.added.count);
-        few = omega (arith, step.added.count);
-        capacity_same = same_room step.added;
-        width_same = step.width;
-        covers_same = λ a. (λ h. h ∙ step.width, λ h. h ∙ sym step.width);
-        still_used = λ m u. lt-ltb m.0 t.nodes.count (omega (arith, ltb-true m.0 s.nodes.count u, step.added.count));
+        grows = omega (arith, step.0.count);
+        few = omega (arith, step.0.count);
+        capacity_same = same_room step.0;
+        width_same = step.1;
+        covers_same = λ a. (λ h. h ∙ step.1, λ h. h ∙ sym step.1);
+        still_used = still_below step.0;
         kept = λ m a u h.
             ap (λ vs. get_or vs m.0 K.no) (more_values a)
             ∙ get_or_append_left (node_values K s a) _ K.no m.0 (omega (arith, values_length s a, ltb-true m.0 s.nodes.count u));
       };
       as_stated = λ a h.
           ap (λ vs. get_or vs n.0 K.no) (more_values a)
-          ∙ get_or_push (node_values K s a) _ K.no n.0 (values_length s a ∙ sym step.added.next);
+          ∙ get_or_push (node_values K s a) _ K.no n.0 (values_length s a ∙ sym step.0.next);
     }

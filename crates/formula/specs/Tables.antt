@@ -74,14 +74,9 @@ module _ {V : Type 0} where
     value = λ s n a. slice_index_or (node_values K s a) n.0 K.no;
   }
 
-  -- the row became that of n, the next node, and nothing else changed
-  pub record RowPlaced (s : TableStore V) (row : NodeRow) (n : Node) (t : TableStore V) : Type 0 where
-    pub added : NodeAdded s.nodes row n t.nodes
-    pub width : t.width ≡ s.width
-
-  -- what an accepted making call does
+  -- what an accepted making call does: the next node gets its row, and the width stays
   abbrev pub table_steps : TableStore V → Making → Node → TableStore V → Type 0
-  table_steps s c n t = RowPlaced s (row_of c) n t
+  table_steps s c n t = NodeAdded s.nodes (row_of c) n t.nodes × (t.width ≡ s.width)
 
   -- whether a row of two nodes is refused, and why
   abbrev pub combine_refusal : TableStore V → Node → Node → Option Refusal

@@ -6,7 +6,7 @@ use crate::stores::capacity_of;
 use kinds::numbered::Node;
 use kinds::refusals::Refusal;
 
-// The nodes in use are those below the count. Node 2 + i has item i after the `front` ones, which are no node's.
+// The nodes below the count are in use. Node 2 + i has item i after the `front` ones, which are no node's.
 #[derive(Drop)]
 pub struct Nodes<T> {
     pub items: Vec<T>,
@@ -27,12 +27,7 @@ impl<T> Nodes<T> {
         ensures front { result.front ≡ min front (vec_len items) }
         ensures items { result.items ≡ items }
     {
-        let given = items.len();
-        let front = if (front as usize) < given {
-            front
-        } else {
-            given as u32
-        };
+        let front = items.len().min(front as usize) as u32;
         Nodes {
             items,
             front,

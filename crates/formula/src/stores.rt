@@ -79,13 +79,12 @@ pub trait Store {
     ghost sound: { (s : Self) (c : Making) (n : Node) (t : Self) → steps s c n t → Makes Self.Value.Kind.kind meaning s c n t };
 }
 
+// How many nodes a store may have.
+const MOST_NODES: usize = 1_000_000;
+
 // The capacity where this many places are given for nodes from 2 on.
 pub fn capacity_of(places: usize) -> u32
     ensures { result ≡ capacity_of places }
 {
-    if places < 999_998 {
-        2 + places as u32
-    } else {
-        1_000_000
-    }
+    2 + places.min(MOST_NODES - 2) as u32
 }

@@ -63,9 +63,9 @@ impl<K: Kind> Store for Evaluator<K> {
 
     ghost steps = { evaluator_steps K.kind };
 
-    ghost lawful = { λ s. evaluator_lawful K.kind s };
+    ghost lawful = { evaluator_lawful K.kind };
 
-    ghost sound = { λ s c n t step. evaluator_sound K.kind s c n t step };
+    ghost sound = { evaluator_sound K.kind };
 
     fn capacity(&self) -> u32 {
         self.nodes.capacity()

@@ -2,7 +2,7 @@
 ghost use Rattle.std.specs.Prelude.{◌≡◌};
 ghost use Rattle.formula.specs.Store.{DoneOrRefused, Fixing};
 ghost use Rattle.formula.specs.Nodes.{no_place};
-ghost use Rattle.formula.specs.Tables.{table_meaning, table_steps, row_of, RowPlaced, combine_refusal, row_asked, RowsStand, SameTable};
+ghost use Rattle.formula.specs.Tables.{table_meaning, table_steps, row_of, combine_refusal, row_asked, RowsStand, SameTable};
 ghost use Rattle.formula.specs.TableLaws.{table_lawful, table_sound};
 
 use crate::nodes::Nodes;
@@ -63,14 +63,14 @@ impl<K> TableStore<K> {
 
     // Gives the next node the row of a call.
     fn place(&mut self, call: Making) -> Result<Node, Refusal>
-        ensures { DoneOrRefused (no_place self.old.nodes) (RowPlaced self.old (row_of call)) self.old result self.new }
+        ensures { DoneOrRefused (no_place self.old.nodes) (table_steps self.old call) self.old result self.new }
     {
         self.nodes.add(NodeRow::from(call))
     }
 
     // Gives the next node the row of a call that is of these two nodes.
     fn combine(&mut self, call: Making, p: Node, q: Node) -> Result<Node, Refusal>
-        ensures { DoneOrRefused (combine_refusal self.old p q) (RowPlaced self.old (row_of call)) self.old result self.new }
+        ensures { DoneOrRefused (combine_refusal self.old p q) (table_steps self.old call) self.old result self.new }
     {
         if p.0 >= self.nodes.count || q.0 >= self.nodes.count {
             return Err(Refusal::NotInUse);
@@ -86,9 +86,9 @@ impl<K: Kind> Store for TableStore<K> {
 
     ghost steps = { table_steps };
 
-    ghost lawful = { λ s. table_lawful K.kind s };
+    ghost lawful = { table_lawful K.kind };
 
-    ghost sound = { λ s c n t step. table_sound K.kind s c n t step };
+    ghost sound = { table_sound K.kind };
 
     fn capacity(&self) -> u32 {
         self.nodes.capacity()
