@@ -16,6 +16,10 @@ use Rattle.formula.specs.declared.stores.Making.TheVariants as making
 use Rattle.formula.specs.Store.{node_no, node_yes, Fixing}
 use Rattle.conditions.specs.Reading.{items, part, Reading, alone, joins, reading}
 use Rattle.conditions.specs.Made.{Ends, ends, filled, ends_at, last_ends, ItemMade, literal_made, name_made, operation_made, TermMade, term_done, term_more, SingleMade, assert_made, assume_made, let_made, skip_made, raise_made, stop_made, OrAndMade, or_and_made, JointMade, sequence_made, catch_made, choice_made, RowMade, RowsMade, rows_done, rows_more}
+use Rattle.formula.specs.Tables.{table_steps, SameTable}
+use Rattle.formula.specs.Evaluators.{evaluator_steps, SameValues}
+use Rattle.formula.proofs.StoreFixing.{table_fixing, evaluator_fixing}
+use Rattle.kinds.specs.Kind.{KindOf}
 use Rattle.conditions.specs.Fixed.{ConditionFixed}
 
 -- the first node of a list
@@ -211,8 +215,16 @@ module _ {S : Type 0} (Alike : S → S → Type 0) (steps : S → Making → Nod
       rows_fixed terms rest (done ++ (filled r e ∷ [])) f.1 (rows_calls steps y)
       (rows_calls steps (subst (λ z. RowsMade steps terms u' (done ++ (filled r z ∷ [])) rest t' all') (sym f.0) y'))
 
-  pub condition_fixed : ConditionFixed Alike steps
+  condition_fixed : ConditionFixed Alike steps
   condition_fixed p s s' rows rows' n n' t t' a x y =
       let f = rows_fixed (term_rows p) (layout p 0 0) [] a (rows_calls steps x.rows_made) (rows_calls steps y.rows_made) in
       let g = fixed f.1 x.last_made (subst (λ z. steps y.between (making.Not (last_ends z).W) n' t') (sym f.0) y.last_made) in
       (f.0, g.0, g.1)
+
+-- in a table store, and in an evaluator
+
+pub tables_fixed : {V : Type 0} → ConditionFixed (SameTable {V = V}) table_steps
+tables_fixed = condition_fixed SameTable table_steps table_fixing
+
+pub evaluators_fixed : {V : Type 0} (K : KindOf V) → ConditionFixed SameValues (evaluator_steps K)
+evaluators_fixed K = condition_fixed SameValues (evaluator_steps K) (evaluator_fixing K)

@@ -64,6 +64,22 @@ module _ {V : Type 0} {S : Type 0} (M : Meaning V S) (s : S) (row_room term_room
   accepted_forecast v (Ok c) m h = let r = roomy (form_measures v c) m h in record { command = c; decoded = refl; measured = r.1; room = r.0 }
   accepted_forecast v (Err e) m h = let z : ◌≡◌ {A = ℕ} 0 1 = cc in absurd (omega arith)
 
+  -- and passify does not refuse it
+  pub never_refused : (v : ℕ) (d : Result Command Refusal) (m : FormMeasures) (e : Refusal) → Ok m ≡ condition_answer M s row_room term_room v d
+      → Err e ≡ passify_answer v d row_room term_room → ⊥
+  never_refused v (Err f) m e h k = cc
+  never_refused v (Ok c) m e h k =
+      let room = (roomy (form_measures v c) m h).0 in
+      go room.few_names room.rows_room room.terms_room (leb (passive_form v c).next most_names)
+      (leb (rows (passive_form v c).code) row_room && leb (length (terms (passive_form v c).code)) term_room) refl refl k
+    where
+      go : (form_measures v c).names ≤ 4096 → (form_measures v c).rows ≤ row_room → (form_measures v c).terms ≤ term_room → (a b : Bool)
+          → leb (passive_form v c).next most_names ≡ a → (leb (rows (passive_form v c).code) row_room && leb (length (terms (passive_form v c).code)) term_room) ≡ b
+          → Err e ≡ cond a (cond b (Ok (form_lengths v c)) (Err WorkTable)) (Err Names) → ⊥
+      go n r t true true x y k = cc
+      go n r t true false x y k = grind (arith, nat_tests)
+      go n r t false b x y k = grind (arith, nat_tests)
+
 -- the form that passify wrote
 
 lengths_from : (v : ℕ) (c : Command) (row_room term_room : ℕ) (l : FormLengths) → Ok l ≡ form_answer v c row_room term_room → l ≡ form_lengths v c
