@@ -19,7 +19,7 @@ pub struct Nodes<T> {
 
 impl<T> Nodes<T> {
     ghost use Rattle.std.specs.Prelude.{◌≡◌, min};
-    ghost use Rattle.formula.specs.Nodes.{room_of};
+    ghost use Rattle.formula.specs.Nodes.{place_of, room_of};
 
     // No nodes but 0 and 1: each item after the front ones gives a place.
     pub fn new(items: Vec<T>, front: u32) -> Nodes<T>
@@ -41,6 +41,14 @@ impl<T> Nodes<T> {
     {
         capacity_of(self.items.len() - self.front as usize)
     }
+
+    // Where the item of a node from 2 on stands.
+    fn place_of(&self, node: Node) -> usize
+        requires { 2 ≤ node.0 }
+        ensures { result ≡ place_of self.now node.0 }
+    {
+        self.front as usize + (node.0 - 2) as usize
+    }
 }
 
 impl<T: Copy> Nodes<T> {
@@ -54,7 +62,7 @@ impl<T: Copy> Nodes<T> {
         requires used { node.0 < self.now.count }
         ensures { (other : T) → result ≡ slice_index_or (vec_items self.now.items) (place_of self.now node.0) other }
     {
-        self.items[self.front as usize + (node.0 - 2) as usize]
+        self.items[self.place_of(node)]
     }
 
     // Gives the next node this item.
@@ -65,7 +73,7 @@ impl<T: Copy> Nodes<T> {
             return Err(Refusal::Places);
         }
         let node = Node(self.count);
-        let place = self.front as usize + (node.0 - 2) as usize;
+        let place = self.place_of(node);
         self.items[place] = item;
         self.count += 1;
         Ok(node)

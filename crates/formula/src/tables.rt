@@ -2,6 +2,7 @@
 ghost use Rattle.std.specs.Prelude.{◌≡◌};
 
 use crate::nodes::Nodes;
+use crate::stores::Making;
 use std::marker::PhantomData;
 
 pub mod making;
@@ -24,6 +25,31 @@ impl NodeRow {
         first: 0,
         second: 0,
     };
+}
+
+impl From<Making> for NodeRow {
+    ghost use Rattle.std.specs.Prelude.{◌≡◌};
+    ghost use Rattle.formula.specs.Tables.{row_of};
+
+    ghost from_gives = { λ call row. row ≡ row_of call };
+
+    fn from(call: Making) -> NodeRow {
+        let (tag, operation, first, second) = match call {
+            Making::Literal(n) => (1, 0, u32::from(n), 0),
+            Making::Name(f) => (2, 0, u32::from(f.0), 0),
+            Making::Operation(op, p, q) => (3, u32::from(op), p.0, q.0),
+            Making::Same(p, q) => (4, 0, p.0, q.0),
+            Making::Not(p) => (5, 0, p.0, 0),
+            Making::And(p, q) => (6, 0, p.0, q.0),
+            Making::Or(p, q) => (7, 0, p.0, q.0),
+        };
+        NodeRow {
+            tag,
+            operation,
+            first,
+            second,
+        }
+    }
 }
 
 // Node 0 is no and node 1 is yes; a node from 2 on has the row of the call that made it.

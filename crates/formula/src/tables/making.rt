@@ -13,28 +13,6 @@ use kinds::numbered::{Name, Node};
 use kinds::refusals::Refusal;
 use std::marker::PhantomData;
 
-impl From<Making> for NodeRow {
-    ghost from_gives = { λ call row. row ≡ row_of call };
-
-    fn from(call: Making) -> NodeRow {
-        let (tag, operation, first, second) = match call {
-            Making::Literal(n) => (1, 0, u32::from(n), 0),
-            Making::Name(f) => (2, 0, u32::from(f.0), 0),
-            Making::Operation(op, p, q) => (3, u32::from(op), p.0, q.0),
-            Making::Same(p, q) => (4, 0, p.0, q.0),
-            Making::Not(p) => (5, 0, p.0, 0),
-            Making::And(p, q) => (6, 0, p.0, q.0),
-            Making::Or(p, q) => (7, 0, p.0, q.0),
-        };
-        NodeRow {
-            tag,
-            operation,
-            first,
-            second,
-        }
-    }
-}
-
 impl<K> TableStore<K> {
     // A store of no nodes but 0 and 1, with a place for each row.
     pub fn new(rows: Vec<NodeRow>, width: u32) -> TableStore<K>
