@@ -157,8 +157,8 @@ module _ {V : Type 0} {S : Type 0} (K : KindOf V) (M : Meaning V S) (steps : S �
           let xs = x.front ++ (x.last ∷ []) in
           let y =
           form_made q (i + rows p) (j + length (terms p)) x.between t (done ++ xs) (end ++ rest) all
-          (length-append done xs ∙ omega (arith, at, x.many, length-append x.front (x.last ∷ []))) (stand_right table j o p q stand) x.left in
-          joined_form o p q i s t done rest all at x y (next_made y.left)
+          (omega (arith, length-append done xs, at, x.many, length-append x.front (x.last ∷ []))) (stand_right table j o p q stand) x.left in
+          joined_form o p q i s t done rest all at x y (next_made {s = y.between} {done = (done ++ xs) ++ (y.front ++ (y.last ∷ []))} y.left)
 
     rows_over : {table : List PassiveTermRow} {s t : S} {done all : List PassiveRow} → RowsMade steps table s done [] t all → (s ≡ t) × (done ≡ all)
     rows_over rows_done = (refl, refl)

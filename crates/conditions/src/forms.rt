@@ -39,12 +39,8 @@ fn form_nodes<S: Store>(
         let term = &terms[first..first + row.count as usize];
         let left = nodes_at(rows, row.left);
         last = row_nodes(store, row, term, left, last);
-        rows[i] = PassiveRow {
-            n: last.0,
-            x: last.1,
-            w: last.2,
-            ..row
-        };
+        let (n, x, w) = last;
+        rows[i] = PassiveRow { n, x, w, ..row };
     }
     last
 }
