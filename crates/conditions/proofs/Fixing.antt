@@ -11,9 +11,15 @@ use Rattle.passive.specs.Passive.{PassiveSingle, p_assert, p_assume, p_let, p_sk
 use Rattle.passive.specs.Layout.{layout, term_rows}
 use Rattle.passive.specs.declared.rows.PassiveTermRow.{PassiveTermRow}
 use Rattle.passive.specs.declared.rows.PassiveRow.{PassiveRow}
-use Rattle.formula.specs.Store.{Making, make_literal, make_name, make_operation, make_same, make_not, make_and, make_or, node_no, node_yes, Fixing}
+use Rattle.formula.specs.declared.stores.Making.{Making}
+use Rattle.formula.specs.declared.stores.Making.TheVariants as making
+use Rattle.formula.specs.Store.{node_no, node_yes, Fixing}
 use Rattle.conditions.specs.Reading.{items, part, Reading, alone, joins, reading}
 use Rattle.conditions.specs.Made.{Ends, ends, filled, ends_at, last_ends, ItemMade, literal_made, name_made, operation_made, TermMade, term_done, term_more, SingleMade, assert_made, assume_made, let_made, skip_made, raise_made, stop_made, OrAndMade, or_and_made, JointMade, sequence_made, catch_made, choice_made, RowMade, RowsMade, rows_done, rows_more}
+use Rattle.formula.specs.Tables.{table_steps, SameTable}
+use Rattle.formula.specs.Evaluators.{evaluator_steps, SameValues}
+use Rattle.formula.proofs.StoreFixing.{table_fixing, evaluator_fixing}
+use Rattle.kinds.specs.Kind.{KindOf}
 use Rattle.conditions.specs.Fixed.{ConditionFixed}
 
 -- the first node of a list
@@ -29,11 +35,11 @@ module _ {S : Type 0} (steps : S → Making → Node → S → Type 0) where
   OneMore s c waiting t after = (n : Node) × steps s c n t × (after ≡ n ∷ waiting)
 
   abbrev ItemCalls : S → List Node → Item Name → S → List Node → Type 0
-  ItemCalls s waiting (Literal k) t after = OneMore s (make_literal k) waiting t after
-  ItemCalls s waiting (Reference f) t after = OneMore s (make_name f) waiting t after
+  ItemCalls s waiting (Literal k) t after = OneMore s (making.Literal k) waiting t after
+  ItemCalls s waiting (Reference f) t after = OneMore s (making.Name f) waiting t after
   ItemCalls s [] (Operation k) t after = ⊥
   ItemCalls s (q ∷ []) (Operation k) t after = ⊥
-  ItemCalls s (q ∷ (p ∷ waiting)) (Operation k) t after = OneMore s (make_operation k p q) waiting t after
+  ItemCalls s (q ∷ (p ∷ waiting)) (Operation k) t after = OneMore s (making.Operation k p q) waiting t after
 
   item_calls : {s t : S} {waiting after : List Node} {i : Item Name} → ItemMade steps s waiting i t after → ItemCalls s waiting i t after
   item_calls (literal_made {n = n} h) = (n, h, refl)
@@ -49,10 +55,10 @@ module _ {S : Type 0} (steps : S → Making → Node → S → Type 0) where
   term_calls (term_more {u = u} {waiting' = after} x y) = (u, after, x, y)
 
   abbrev SingleCalls : S → PassiveSingle → S → Ends → Type 0
-  SingleCalls s (p_assert is) t e = (u : S) × (n : Node) × (w : Node) × TermMade steps s [] is u n × steps u (make_not n) w t × (e ≡ ends n node_no w)
+  SingleCalls s (p_assert is) t e = (u : S) × (n : Node) × (w : Node) × TermMade steps s [] is u n × steps u (making.Not n) w t × (e ≡ ends n node_no w)
   SingleCalls s (p_assume is) t e = (n : Node) × TermMade steps s [] is t n × (e ≡ ends n node_no node_no)
   SingleCalls s (p_let f is) t e =
-      (u : S) × (v : S) × (m : Node) × (k : Node) × (n : Node) × steps s (make_name f) m u × TermMade steps u [] is v k × steps v (make_same m k) n t
+      (u : S) × (v : S) × (m : Node) × (k : Node) × (n : Node) × steps s (making.Name f) m u × TermMade steps u [] is v k × steps v (making.Same m k) n t
       × (e ≡ ends n node_no node_no)
   SingleCalls s p_skip t e = (t ≡ s) × (e ≡ ends node_yes node_no node_no)
   SingleCalls s p_raise t e = (t ≡ s) × (e ≡ ends node_no node_yes node_no)
@@ -67,7 +73,7 @@ module _ {S : Type 0} (steps : S → Making → Node → S → Type 0) where
   single_calls stop_made = (refl, refl)
 
   abbrev OrAndCalls : S → Node → Node → Node → S → Node → Type 0
-  OrAndCalls s p q r t n = (u : S) × (m : Node) × steps s (make_and q r) m u × steps u (make_or p m) n t
+  OrAndCalls s p q r t n = (u : S) × (m : Node) × steps s (making.And q r) m u × steps u (making.Or p m) n t
 
   or_and_calls : {s t : S} {p q r n : Node} → OrAndMade steps s p q r t n → OrAndCalls s p q r t n
   or_and_calls (or_and_made {u = u} {m = m} h k) = (u, m, h, k)
@@ -91,9 +97,9 @@ module _ {S : Type 0} (steps : S → Making → Node → S → Type 0) where
   OrAnd p q r s t n = OrAndMade steps s p q r t n
 
   abbrev JointCalls : S → Joint → Ends → Ends → S → Ends → Type 0
-  JointCalls s Sequence a b t e = InTurn (Call (make_and a.N b.N)) (OrAnd a.X a.N b.X) (OrAnd a.W a.N b.W) s t e
-  JointCalls s Catch a b t e = InTurn (OrAnd a.N a.X b.N) (Call (make_and a.X b.X)) (OrAnd a.W a.X b.W) s t e
-  JointCalls s Choice a b t e = InTurn (Call (make_or a.N b.N)) (Call (make_or a.X b.X)) (Call (make_or a.W b.W)) s t e
+  JointCalls s Sequence a b t e = InTurn (Call (making.And a.N b.N)) (OrAnd a.X a.N b.X) (OrAnd a.W a.N b.W) s t e
+  JointCalls s Catch a b t e = InTurn (OrAnd a.N a.X b.N) (Call (making.And a.X b.X)) (OrAnd a.W a.X b.W) s t e
+  JointCalls s Choice a b t e = InTurn (Call (making.Or a.N b.N)) (Call (making.Or a.X b.X)) (Call (making.Or a.W b.W)) s t e
 
   joint_calls : {s t : S} {j : Joint} {a b e : Ends} → JointMade steps s j a b t e → JointCalls s j a b t e
   joint_calls (sequence_made {u = u} {v = v} {n = n} {x = x} {w = w} h k l) =
@@ -149,7 +155,7 @@ module _ {S : Type 0} (Alike : S → S → Type 0) (steps : S → Making → Nod
   single_fixed : {s s' t t' : S} {e e' : Ends} (p : PassiveSingle) → Alike s s' → SingleCalls steps s p t e → SingleCalls steps s' p t' e' → (e ≡ e') × Alike t t'
   single_fixed {t' = t'} (p_assert is) a (u, n, w, x, h, is_e) (u', n', w', x', h', is_e') =
       let f = whole_fixed a x x' in
-      let g = fixed f.1 h (subst (λ m. steps u' (make_not m) w' t') (sym f.0) h') in
+      let g = fixed f.1 h (subst (λ m. steps u' (making.Not m) w' t') (sym f.0) h') in
       (is_e ∙ (λ i. ends (f.0 i) node_no (g.0 i)) ∙ sym is_e', g.1)
   single_fixed (p_assume is) a (n, x, is_e) (n', x', is_e') =
       let f = whole_fixed a x x' in
@@ -157,7 +163,7 @@ module _ {S : Type 0} (Alike : S → S → Type 0) (steps : S → Making → Nod
   single_fixed {t' = t'} (p_let f is) a (u, v, m, k, n, h, x, l, is_e) (u', v', m', k', n', h', x', l', is_e') =
       let i = fixed a h h' in
       let j = whole_fixed i.1 x x' in
-      let o = fixed j.1 l (subst (λ z. steps v' (make_same m z) n' t') (sym j.0) (subst (λ z. steps v' (make_same z k') n' t') (sym i.0) l')) in
+      let o = fixed j.1 l (subst (λ z. steps v' (making.Same m z) n' t') (sym j.0) (subst (λ z. steps v' (making.Same z k') n' t') (sym i.0) l')) in
       (is_e ∙ ap (λ z. ends z node_no node_no) o.0 ∙ sym is_e', o.1)
   single_fixed p_skip a (stay, x) (stay', y) = (x ∙ sym y, stayed a stay stay')
   single_fixed p_raise a (stay, x) (stay', y) = (x ∙ sym y, stayed a stay stay')
@@ -166,7 +172,7 @@ module _ {S : Type 0} (Alike : S → S → Type 0) (steps : S → Making → Nod
   or_and_fixed : {s s' t t' : S} {p q r n n' : Node} → Alike s s' → OrAndCalls steps s p q r t n → OrAndCalls steps s' p q r t' n' → (n ≡ n') × Alike t t'
   or_and_fixed {t' = t'} {p = p} {n' = n'} a (u, m, h, k) (u', m', h', k') =
       let f = fixed a h h' in
-      fixed f.1 k (subst (λ z. steps u' (make_or p z) n' t') (sym f.0) k')
+      fixed f.1 k (subst (λ z. steps u' (making.Or p z) n' t') (sym f.0) k')
 
   -- a making answers the same node in stores that look alike
   abbrev Steady : (S → S → Node → Type 0) → Type 0
@@ -188,14 +194,14 @@ module _ {S : Type 0} (Alike : S → S → Type 0) (steps : S → Making → Nod
 
   joint_fixed : {s s' t t' : S} {e e' : Ends} (j : Joint) (l r : Ends) → Alike s s' → JointCalls steps s j l r t e → JointCalls steps s' j l r t' e' → (e ≡ e') × Alike t t'
   joint_fixed Sequence l r a x y =
-      turns_fixed (Call steps (make_and l.N r.N)) (OrAnd steps l.X l.N r.X) (OrAnd steps l.W l.N r.W)
-      (steady_call (make_and l.N r.N)) (steady_or_and l.X l.N r.X) (steady_or_and l.W l.N r.W) a x y
+      turns_fixed (Call steps (making.And l.N r.N)) (OrAnd steps l.X l.N r.X) (OrAnd steps l.W l.N r.W)
+      (steady_call (making.And l.N r.N)) (steady_or_and l.X l.N r.X) (steady_or_and l.W l.N r.W) a x y
   joint_fixed Catch l r a x y =
-      turns_fixed (OrAnd steps l.N l.X r.N) (Call steps (make_and l.X r.X)) (OrAnd steps l.W l.X r.W)
-      (steady_or_and l.N l.X r.N) (steady_call (make_and l.X r.X)) (steady_or_and l.W l.X r.W) a x y
+      turns_fixed (OrAnd steps l.N l.X r.N) (Call steps (making.And l.X r.X)) (OrAnd steps l.W l.X r.W)
+      (steady_or_and l.N l.X r.N) (steady_call (making.And l.X r.X)) (steady_or_and l.W l.X r.W) a x y
   joint_fixed Choice l r a x y =
-      turns_fixed (Call steps (make_or l.N r.N)) (Call steps (make_or l.X r.X)) (Call steps (make_or l.W r.W))
-      (steady_call (make_or l.N r.N)) (steady_call (make_or l.X r.X)) (steady_call (make_or l.W r.W)) a x y
+      turns_fixed (Call steps (making.Or l.N r.N)) (Call steps (making.Or l.X r.X)) (Call steps (making.Or l.W r.W))
+      (steady_call (making.Or l.N r.N)) (steady_call (making.Or l.X r.X)) (steady_call (making.Or l.W r.W)) a x y
 
   row_fixed : (rd : Reading) (l r : Ends) (s s' t t' : S) (e e' : Ends) → Alike s s' → RowMade steps s rd l r t e → RowMade steps s' rd l r t' e' → (e ≡ e') × Alike t t'
   row_fixed (alone p) l r s s' t t' e e' a x y = single_fixed p a (single_calls steps x) (single_calls steps y)
@@ -209,8 +215,16 @@ module _ {S : Type 0} (Alike : S → S → Type 0) (steps : S → Making → Nod
       rows_fixed terms rest (done ++ (filled r e ∷ [])) f.1 (rows_calls steps y)
       (rows_calls steps (subst (λ z. RowsMade steps terms u' (done ++ (filled r z ∷ [])) rest t' all') (sym f.0) y'))
 
-  pub condition_fixed : ConditionFixed Alike steps
+  condition_fixed : ConditionFixed Alike steps
   condition_fixed p s s' rows rows' n n' t t' a x y =
       let f = rows_fixed (term_rows p) (layout p 0 0) [] a (rows_calls steps x.rows_made) (rows_calls steps y.rows_made) in
-      let g = fixed f.1 x.last_made (subst (λ z. steps y.between (make_not (last_ends z).W) n' t') (sym f.0) y.last_made) in
+      let g = fixed f.1 x.last_made (subst (λ z. steps y.between (making.Not (last_ends z).W) n' t') (sym f.0) y.last_made) in
       (f.0, g.0, g.1)
+
+-- in a table store, and in an evaluator
+
+pub tables_fixed : {V : Type 0} → ConditionFixed (SameTable {V = V}) table_steps
+tables_fixed = condition_fixed SameTable table_steps table_fixing
+
+pub evaluators_fixed : {V : Type 0} (K : KindOf V) → ConditionFixed SameValues (evaluator_steps K)
+evaluators_fixed K = condition_fixed SameValues (evaluator_steps K) (evaluator_fixing K)

@@ -21,7 +21,8 @@ use Rattle.passify.specs.declared.calls.FormMeasures.{FormMeasures}
 use Rattle.passify.specs.Calls.{most_names, form_measures, form_lengths, form_answer, passify_answer, rows_after, terms_after}
 use Rattle.passify.proofs.Parts.{length_layout, length_term_rows}
 use Rattle.passify.proofs.Accepted.{proper}
-use Rattle.formula.specs.Store.{Making, Meaning, Lawful, Makes}
+use Rattle.formula.specs.declared.stores.Making.{Making}
+use Rattle.formula.specs.Store.{Meaning, Lawful, Makes}
 use Rattle.conditions.specs.Asks.{Room, RowsFit, rows_nodes}
 use Rattle.conditions.specs.Made.{filled, RowsMade, rows_done, rows_more, TableMade, ConditionMade}
 use Rattle.conditions.specs.Valued.{RowsUsed, ConditionValued}
@@ -62,6 +63,22 @@ module _ {V : Type 0} {S : Type 0} (M : Meaning V S) (s : S) (row_room term_room
   pub accepted_forecast : (v : ℕ) (d : Result Command Refusal) (m : FormMeasures) → Ok m ≡ condition_answer M s row_room term_room v d → Forecast v d m
   accepted_forecast v (Ok c) m h = let r = roomy (form_measures v c) m h in record { command = c; decoded = refl; measured = r.1; room = r.0 }
   accepted_forecast v (Err e) m h = let z : ◌≡◌ {A = ℕ} 0 1 = cc in absurd (omega arith)
+
+  -- and passify does not refuse it
+  pub never_refused : (v : ℕ) (d : Result Command Refusal) (m : FormMeasures) (e : Refusal) → Ok m ≡ condition_answer M s row_room term_room v d
+      → Err e ≡ passify_answer v d row_room term_room → ⊥
+  never_refused v (Err f) m e h k = cc
+  never_refused v (Ok c) m e h k =
+      let room = (roomy (form_measures v c) m h).0 in
+      go room.few_names room.rows_room room.terms_room (leb (passive_form v c).next most_names)
+      (leb (rows (passive_form v c).code) row_room && leb (length (terms (passive_form v c).code)) term_room) refl refl k
+    where
+      go : (form_measures v c).names ≤ 4096 → (form_measures v c).rows ≤ row_room → (form_measures v c).terms ≤ term_room → (a b : Bool)
+          → leb (passive_form v c).next most_names ≡ a → (leb (rows (passive_form v c).code) row_room && leb (length (terms (passive_form v c).code)) term_room) ≡ b
+          → Err e ≡ cond a (cond b (Ok (form_lengths v c)) (Err WorkTable)) (Err Names) → ⊥
+      go n r t true true x y k = cc
+      go n r t true false x y k = grind (arith, nat_tests)
+      go n r t false b x y k = grind (arith, nat_tests)
 
 -- the form that passify wrote
 

@@ -10,7 +10,9 @@ use Rattle.passive.specs.Outcomes.{Assignment, Outcomes, outcomes, nodes}
 use Rattle.passive.specs.Layout.{terms, term_rows, rows, plain_row, joint_row, single_row, layout}
 use Rattle.passive.specs.declared.rows.PassiveTermRow.{PassiveTermRow}
 use Rattle.passive.specs.declared.rows.PassiveRow.{PassiveRow}
-use Rattle.formula.specs.Store.{Making, make_not, Meaning, Lawful, Grown, Makes}
+use Rattle.formula.specs.declared.stores.Making.{Making}
+use Rattle.formula.specs.declared.stores.Making.TheVariants as making
+use Rattle.formula.specs.Store.{Meaning, Lawful, Grown, Makes}
 use Rattle.conditions.specs.Reading.{items, part, alone, joins, reading}
 use Rattle.conditions.specs.Made.{Ends, row_ends, filled, ends_at, last_ends, SingleMade, JointMade, RowMade, RowsMade, rows_done, rows_more, ConditionMade}
 use Rattle.conditions.specs.Valued.{all_outcomes, Says, RowsSay, EndsUsed, RowsUsed, ConditionValued}
@@ -155,8 +157,8 @@ module _ {V : Type 0} {S : Type 0} (K : KindOf V) (M : Meaning V S) (steps : S �
           let xs = x.front ++ (x.last ∷ []) in
           let y =
           form_made q (i + rows p) (j + length (terms p)) x.between t (done ++ xs) (end ++ rest) all
-          (length-append done xs ∙ omega (arith, at, x.many, length-append x.front (x.last ∷ []))) (stand_right table j o p q stand) x.left in
-          joined_form o p q i s t done rest all at x y (next_made y.left)
+          (omega (arith, length-append done xs, at, x.many, length-append x.front (x.last ∷ []))) (stand_right table j o p q stand) x.left in
+          joined_form o p q i s t done rest all at x y (next_made {s = y.between} {done = (done ++ xs) ++ (y.front ++ (y.last ∷ []))} y.left)
 
     rows_over : {table : List PassiveTermRow} {s t : S} {done all : List PassiveRow} → RowsMade steps table s done [] t all → (s ≡ t) × (done ≡ all)
     rows_over rows_done = (refl, refl)
@@ -169,8 +171,8 @@ module _ {V : Type 0} {S : Type 0} (K : KindOf V) (M : Meaning V S) (steps : S �
         (subst (λ l. RowsMade steps (term_rows p) s [] l c.between rs) (sym (append-nil (layout p 0 0))) c.rows_made) in
         let e = rows_over x.left in
         let last : last_ends rs ≡ row_ends x.last = ap last_ends (sym e.1) ∙ last_pushed x.front x.last in
-        let step : steps x.between (make_not x.last.w) n t =
-        subst (λ u. steps u (make_not x.last.w) n t) (sym e.0) (subst (λ (z : Ends). steps c.between (make_not z.W) n t) last c.last_made) in
+        let step : steps x.between (making.Not x.last.w) n t =
+        subst (λ u. steps u (making.Not x.last.w) n t) (sym e.0) (subst (λ (z : Ends). steps c.between (making.Not z.W) n t) last c.last_made) in
         let m = made K M steps lawful sound step in
         record {
           grown = grown_then M x.grown m.grown;

@@ -2,10 +2,11 @@
 use Rattle.std.proofs.Common.{◌≡◌, ℕ, ◌+◌, ◌<◌, ◌≤◌, Bool, true, List, [], ◌∷◌, ◌++◌, None, Option, refl, ◌∙◌, arith}
 use Rattle.std.proofs.lemmas.Bool.{lt-ltb, and_from}
 use Rattle.kinds.specs.Kind.{KindOf}
-use Rattle.kinds.specs.declared.numbered.Name.{Name}
 use Rattle.kinds.specs.declared.numbered.Node.{Node}
 use Rattle.kinds.specs.declared.refusals.Refusal.{Refusal}
-use Rattle.formula.specs.Store.{Making, make_literal, make_name, make_operation, make_same, make_not, make_and, make_or, Meaning, operation_known, name_below, nodes_used, unless, Grown}
+use Rattle.formula.specs.declared.stores.Making.{Making}
+use Rattle.formula.specs.declared.stores.Making.TheVariants as making
+use Rattle.formula.specs.Store.{Meaning, operation_known, name_below, nodes_used, unless, Grown}
 use Rattle.conditions.specs.Made.{Ends}
 use Rattle.conditions.specs.Valued.{EndsUsed, RowsUsed}
 use Rattle.conditions.specs.Asks.{Accepted, Room}
@@ -70,24 +71,8 @@ module _ {V : Type 0} {S : Type 0} (K : KindOf V) (M : Meaning V S) where
   accepted s c o w u l =
       unless_true _ _ _ o (unless_true _ _ _ w (unless_true _ _ _ u (unless_true _ _ _ (lt-ltb (M.count s) (M.capacity s) l) refl)))
 
-  pub literal_accepted : (s : S) (n : ℕ) → Room M s 1 → Accepted K M s (make_literal n)
-  literal_accepted s n h = accepted s (make_literal n) refl refl refl (omega (arith, h))
+  pub same_accepted : (s : S) (p q : Node) → M.in_use s p ≡ true → M.in_use s q ≡ true → Room M s 1 → Accepted K M s (making.Same p q)
+  same_accepted s p q u w h = accepted s (making.Same p q) refl refl (and_from _ _ u w) (omega (arith, h))
 
-  pub name_accepted : (s : S) (f : Name) → f.0 < M.width s → Room M s 1 → Accepted K M s (make_name f)
-  name_accepted s f l h = accepted s (make_name f) refl (lt-ltb f.0 (M.width s) l) refl (omega (arith, h))
-
-  pub operation_accepted : (s : S) (k : ℕ) (p q : Node) → k < K.ops → M.in_use s p ≡ true → M.in_use s q ≡ true → Room M s 1
-      → Accepted K M s (make_operation k p q)
-  operation_accepted s k p q l u w h = accepted s (make_operation k p q) (lt-ltb k K.ops l) refl (and_from _ _ u w) (omega (arith, h))
-
-  pub same_accepted : (s : S) (p q : Node) → M.in_use s p ≡ true → M.in_use s q ≡ true → Room M s 1 → Accepted K M s (make_same p q)
-  same_accepted s p q u w h = accepted s (make_same p q) refl refl (and_from _ _ u w) (omega (arith, h))
-
-  pub not_accepted : (s : S) (p : Node) → M.in_use s p ≡ true → Room M s 1 → Accepted K M s (make_not p)
-  not_accepted s p u h = accepted s (make_not p) refl refl u (omega (arith, h))
-
-  pub and_accepted : (s : S) (p q : Node) → M.in_use s p ≡ true → M.in_use s q ≡ true → Room M s 1 → Accepted K M s (make_and p q)
-  and_accepted s p q u w h = accepted s (make_and p q) refl refl (and_from _ _ u w) (omega (arith, h))
-
-  pub or_accepted : (s : S) (p q : Node) → M.in_use s p ≡ true → M.in_use s q ≡ true → Room M s 1 → Accepted K M s (make_or p q)
-  or_accepted s p q u w h = accepted s (make_or p q) refl refl (and_from _ _ u w) (omega (arith, h))
+  pub not_accepted : (s : S) (p : Node) → M.in_use s p ≡ true → Room M s 1 → Accepted K M s (making.Not p)
+  not_accepted s p u h = accepted s (making.Not p) refl refl u (omega (arith, h))

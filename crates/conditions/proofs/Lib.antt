@@ -1,8 +1,6 @@
-pub mod Waits
 pub mod Frames
 pub mod TermLaws
 pub mod Fixing
-pub mod ItemTurns
 pub mod TermTurns
 pub mod RowLaws
 pub mod RowAsks

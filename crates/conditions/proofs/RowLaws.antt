@@ -7,7 +7,9 @@ use Rattle.routine.specs.declared.rows.Joint.{Joint}
 use Rattle.routine.specs.Commands.{Term}
 use Rattle.passive.specs.Passive.{PassiveSingle}
 use Rattle.passive.specs.Outcomes.{Assignment, named, value_under, Outcomes, single_outcomes, joined_outcomes, single_nodes, joint_nodes}
-use Rattle.formula.specs.Store.{Making, make_name, make_same, make_not, make_and, make_or, yes_or_no, node_no, node_yes, Meaning, Lawful, Grown, Makes}
+use Rattle.formula.specs.declared.stores.Making.{Making}
+use Rattle.formula.specs.declared.stores.Making.TheVariants as making
+use Rattle.formula.specs.Store.{yes_or_no, node_no, node_yes, Meaning, Lawful, Grown, Makes}
 use Rattle.conditions.specs.Reading.{Reading, alone, joins}
 use Rattle.conditions.specs.Made.{Ends, TermMade, SingleMade, assert_made, assume_made, let_made, skip_made, raise_made, stop_made, OrAndMade, or_and_made, JointMade, sequence_made, catch_made, choice_made, RowMade}
 use Rattle.conditions.specs.Valued.{Says, EndsUsed}
@@ -33,21 +35,21 @@ module _ {V : Type 0} {S : Type 0} (K : KindOf V) (M : Meaning V S) (a : Assignm
     says = ap K.truth (g.kept p a x.used x.covered) ∙ x.says;
   }
 
-  known_and : {s t : S} {p q n : Node} {b c : Bool} → Makes K M s (make_and p q) n t → Known s p b → Known s q c → Known t n (b && c)
+  known_and : {s t : S} {p q n : Node} {b c : Bool} → Makes K M s (making.And p q) n t → Known s p b → Known s q c → Known t n (b && c)
   known_and m x y = record {
     used = m.used;
     covered = (m.grown.covers_same a).1 x.covered;
     says = ap K.truth (m.as_stated a x.covered) ∙ yes_or_no_truth K _ ∙ ap₂ ◌&&◌ x.says y.says;
   }
 
-  known_or : {s t : S} {p q n : Node} {b c : Bool} → Makes K M s (make_or p q) n t → Known s p b → Known s q c → Known t n (b || c)
+  known_or : {s t : S} {p q n : Node} {b c : Bool} → Makes K M s (making.Or p q) n t → Known s p b → Known s q c → Known t n (b || c)
   known_or m x y = record {
     used = m.used;
     covered = (m.grown.covers_same a).1 x.covered;
     says = ap K.truth (m.as_stated a x.covered) ∙ yes_or_no_truth K _ ∙ ap₂ ◌||◌ x.says y.says;
   }
 
-  pub known_not : {s t : S} {p n : Node} {b : Bool} → Makes K M s (make_not p) n t → Known s p b → Known t n (not b)
+  pub known_not : {s t : S} {p n : Node} {b : Bool} → Makes K M s (making.Not p) n t → Known s p b → Known t n (not b)
   known_not m x = record {
     used = m.used;
     covered = (m.grown.covers_same a).1 x.covered;
@@ -151,8 +153,8 @@ module _ {V : Type 0} {S : Type 0} (K : KindOf V) (M : Meaning V S) (steps : S �
       says = ap K.truth (term_value K M steps sound x a cov);
     }
 
-    let_known : {s u v t : S} {f : Name} {m k n : Node} {is : Term Name} (a : Assignment V) → steps s (make_name f) m u → TermMade steps u [] is v k
-        → steps v (make_same m k) n t → M.covers s a → Known K M a t n (K.same (named K a f) (value_under K a is))
+    let_known : {s u v t : S} {f : Name} {m k n : Node} {is : Term Name} (a : Assignment V) → steps s (making.Name f) m u → TermMade steps u [] is v k
+        → steps v (making.Same m k) n t → M.covers s a → Known K M a t n (K.same (named K a f) (value_under K a is))
     let_known {m = m} a h x k cov =
         let i = made h in
         let j = made k in

@@ -6,7 +6,8 @@ use Rattle.kinds.specs.declared.numbered.Node.{Node}
 use Rattle.passive.specs.Layout.{plain_row}
 use Rattle.passive.specs.declared.rows.PassiveTermRow.{PassiveTermRow}
 use Rattle.passive.specs.declared.rows.PassiveRow.{PassiveRow}
-use Rattle.formula.specs.Store.{Making, node_no, Meaning, Lawful, Grown, Makes}
+use Rattle.formula.specs.declared.stores.Making.{Making}
+use Rattle.formula.specs.Store.{node_no, Meaning, Lawful, Grown, Makes}
 use Rattle.conditions.specs.Reading.{items, part, Reading, alone, joins, reading}
 use Rattle.conditions.specs.Made.{Ends, row_ends, filled, ends_at, last_ends, RowMade, RowsMade, rows_done, rows_more}
 use Rattle.conditions.specs.Valued.{EndsUsed, RowsUsed}
@@ -109,10 +110,7 @@ module _ {V : Type 0} {S : Type 0} (K : KindOf V) (M : Meaning V S) (steps : S �
         fit : RowFits K.ops (M.width s) terms i row
         fit = (fit_more K.ops (M.width s) terms rows i inside fits).0
 
-        pub term_inside : row.from + row.count ≤ length terms
-        term_inside = fit.within
-
-        pub left_inside : row.left < length rows
+        left_inside : row.left < length rows
         left_inside = omega (arith, left_first i row.left said fit.before, inside)
 
         last_used : EndsUsed M s last
@@ -137,29 +135,39 @@ module _ {V : Type 0} {S : Type 0} (K : KindOf V) (M : Meaning V S) (steps : S �
           made_here =
               operands steps s t e i row.left said _ _ _ _ fit.before (λ l. ap row_ends (sym (get_or-take i rows row.left (plain_row 0) l))) was made
 
-          pub more_made : (u : S) (all : List PassiveRow) → RowsMade steps terms t (take (i + 1) after) (drop (i + 1) after) u all
+          more_made : (u : S) (all : List PassiveRow) → RowsMade steps terms t (take (i + 1) after) (drop (i + 1) after) u all
               → RowsMade steps terms s (take i rows) (drop i rows) u all
           more_made u all h =
               subst (λ rs. RowsMade steps terms s (take i rows) rs u all) (sym (drop_more rows i (plain_row 0) inside))
               (rows_more e made_here
               (subst (λ rs. RowsMade steps terms t rs (drop (i + 1) rows) u all) front (subst (λ rs. RowsMade steps terms t (take (i + 1) after) rs u all) back h)))
 
-          pub more_fit : RowsFit K.ops (M.width t) terms (i + 1) (drop (i + 1) after)
+          more_fit : RowsFit K.ops (M.width t) terms (i + 1) (drop (i + 1) after)
           more_fit =
               subst (λ w. RowsFit K.ops w terms (i + 1) (drop (i + 1) after)) (sym grown.width_same)
               (subst (RowsFit K.ops (M.width s) terms (i + 1)) (sym back) (fit_more K.ops (M.width s) terms rows i inside fits).1)
 
-          pub more_used : RowsUsed M t after
+          more_used : RowsUsed M t after
           more_used =
               used_set M t rows i (filled row e) (rows_later M rows grown used) (row_used K M steps lawful sound s t said (ends_at rows row.left) last e made)
 
-          pub more_room : Room M t (rows_nodes terms (drop (i + 1) after))
+          more_room : Room M t (rows_nodes terms (drop (i + 1) after))
           more_room =
               subst (λ rs. Room M t (rows_nodes terms rs)) (sym back)
               (room_later M _ _ grown (omega (arith, nodes_more terms rows i inside)) room)
 
-          pub last_is : e ≡ last_ends (take (i + 1) after)
+          last_is : e ≡ last_ends (take (i + 1) after)
           last_is = sym (ap last_ends front ∙ last_pushed (take i rows) (filled row e))
+
+          -- what holds before the next row
+          pub turned :
+              ((u : S) (all : List PassiveRow) → RowsMade steps terms t (take (i + 1) after) (drop (i + 1) after) u all
+              → RowsMade steps terms s (take i rows) (drop i rows) u all)
+              × RowsFit K.ops (M.width t) terms (i + 1) (drop (i + 1) after)
+              × RowsUsed M t after
+              × Room M t (rows_nodes terms (drop (i + 1) after))
+              × (e ≡ last_ends (take (i + 1) after))
+          turned = (more_made, more_fit, more_used, more_room, last_is)
 
 -- all the rows together
 module _ {V : Type 0} {S : Type 0} (K : KindOf V) (M : Meaning V S) (steps : S → Making → Node → S → Type 0)

@@ -7,7 +7,8 @@ use Rattle.routine.specs.declared.rows.Item.{Item}
 use Rattle.routine.specs.Commands.{Term}
 use Rattle.routine.specs.Runs.{waiting_after, last_waiting}
 use Rattle.passive.specs.Outcomes.{Assignment, named, value_under}
-use Rattle.formula.specs.Store.{Making, Meaning, Grown, Makes}
+use Rattle.formula.specs.declared.stores.Making.{Making}
+use Rattle.formula.specs.Store.{Meaning, Grown, Makes}
 use Rattle.conditions.specs.Made.{ItemMade, literal_made, name_made, operation_made, TermMade, term_done, term_more}
 use Rattle.conditions.specs.Asks.{NodesUsed}
 use Rattle.conditions.proofs.Frames.{grown_none, grown_then, grown_by}

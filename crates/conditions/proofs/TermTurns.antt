@@ -1,33 +1,34 @@
 -- The nodes of a term, row by row.
-use Rattle.std.proofs.Common.{◌≡◌, ℕ, ◌+◌, ◌<◌, ◌≤◌, List, [], ◌∷◌, length, get_or, drop, sym, subst, arith}
-use Rattle.std.proofs.lemmas.List.{drop_more, drop_all}
+use Rattle.std.proofs.Common.{◌≡◌, ℕ, ◌+◌, ◌-◌, ◌<◌, ◌≤◌, List, [], ◌∷◌, length, get_or, drop, sym, ap, ◌∙◌, subst, arith}
+use Rattle.std.proofs.lemmas.List.{drop_more, drop_all, nil_from_length}
 use Rattle.kinds.specs.declared.numbered.Name.{Name}
 use Rattle.kinds.specs.declared.numbered.Node.{Node}
 use Rattle.routine.specs.declared.rows.Item.{Item}
-use Rattle.routine.specs.declared.rows.Item.TheVariants.{Literal, Reference, Operation}
 use Rattle.routine.specs.Commands.{Term}
 use Rattle.routine.specs.Standing.{Workable}
 use Rattle.passive.specs.declared.rows.PassiveTermRow.{PassiveTermRow}
-use Rattle.formula.specs.Store.{Making}
+use Rattle.formula.specs.declared.stores.Making.{Making}
 use Rattle.passive.specs.Rows.{item}
+use Rattle.formula.specs.Store.{node_no}
 use Rattle.conditions.specs.Reading.{items}
-use Rattle.conditions.specs.Made.{ItemMade, TermMade, term_done, term_more}
-use Rattle.conditions.specs.Asks.{ItemWorkable, waiting_then}
+use Rattle.conditions.specs.Made.{ItemMade, literal_made, name_made, operation_made, TermMade, term_done, term_more}
 
--- a term over names below the width, where w nodes wait
-abbrev pub WorkableFrom : ℕ → ℕ → ℕ → Term Name → Type 0
-WorkableFrom ops width w t = Workable (λ f. f.0 < width) ops w t
+-- a term over names below the width, where these nodes wait
+abbrev pub WorkableFrom : ℕ → ℕ → List Node → Term Name → Type 0
+WorkableFrom ops width ns t = Workable (λ f. f.0 < width) ops (length ns) t
 
-split : (ops width w : ℕ) (i : Item Name) (t : Term Name) → WorkableFrom ops width w (i ∷ t)
-    → ItemWorkable ops width i w × WorkableFrom ops width (waiting_then i w) t
-split ops width w (Literal n) t h = (h.0, h.1)
-split ops width w (Reference f) t h = ((h.0, h.1), h.2)
-split ops width w (Operation k) t h = ((h.0, h.1), h.2)
-
-pub waiting_few : (ops width w : ℕ) (i : Item Name) → ItemWorkable ops width i w → w ≤ 16 → waiting_then i w ≤ 16
-waiting_few ops width w (Literal n) h l = omega (arith, h)
-waiting_few ops width w (Reference f) h l = omega (arith, h.0)
-waiting_few ops width w (Operation k) h l = omega arith
+module _ {S : Type 0} (steps : S → Making → Node → S → Type 0) where
+  rest_workable : (ops width : ℕ) {s t : S} {ns ms : List Node} {i : Item Name} (is : Term Name) → ItemMade steps s ns i t ms
+      → WorkableFrom ops width ns (i ∷ is) → WorkableFrom ops width ms is
+  rest_workable ops width is (literal_made {waiting = ns} h) w =
+      let e : length ns + 1 ≡ length (node_no ∷ ns) = omega arith in
+      subst (λ k. Workable (λ f. f.0 < width) ops k is) e w.1
+  rest_workable ops width is (name_made {waiting = ns} h) w =
+      let e : length ns + 1 ≡ length (node_no ∷ ns) = omega arith in
+      subst (λ k. Workable (λ f. f.0 < width) ops k is) e w.2
+  rest_workable ops width is (operation_made {waiting = ns} {p = p} {q = q} h) w =
+      let e : length (q ∷ (p ∷ ns)) - 1 ≡ length (node_no ∷ ns) = omega arith in
+      subst (λ k. Workable (λ f. f.0 < width) ops k is) e w.2
 
 abbrev no_row : PassiveTermRow
 no_row = record { tag = 0; number = 0 }
@@ -36,14 +37,16 @@ no_row = record { tag = 0; number = 0 }
 abbrev pub at : List PassiveTermRow → ℕ → PassiveTermRow
 at rows i = get_or rows i no_row
 
-pub workable_more : (ops width : ℕ) (rows : List PassiveTermRow) (i w : ℕ) → i < length rows → WorkableFrom ops width w (items (drop i rows))
-    → ItemWorkable ops width (item (at rows i)) w × WorkableFrom ops width (waiting_then (item (at rows i)) w) (items (drop (i + 1) rows))
-workable_more ops width rows i w l h =
-    split ops width w (item (at rows i)) (items (drop (i + 1) rows))
-    (subst (λ rs. WorkableFrom ops width w (items rs)) (drop_more rows i no_row l) h)
+module _ (ops width : ℕ) (rows : List PassiveTermRow) (i : ℕ) where
+  next : (ns : List Node) → i < length rows → WorkableFrom ops width ns (items (drop i rows)) → WorkableFrom ops width ns (item (at rows i) ∷ items (drop (i + 1) rows))
+  next ns l h = subst (λ rs. WorkableFrom ops width ns (items rs)) (drop_more rows i no_row l) h
 
-pub workable_none : (ops width : ℕ) (rows : List PassiveTermRow) (i w : ℕ) → length rows ≤ i → WorkableFrom ops width w (items (drop i rows)) → w ≡ 1
-workable_none ops width rows i w l h = subst (λ rs. WorkableFrom ops width w (items rs)) (drop_all i rows l) h
+  pub workable_then : {S : Type 0} (steps : S → Making → Node → S → Type 0) {s t : S} {ns ms : List Node} → i < length rows
+      → ItemMade steps s ns (item (at rows i)) t ms → WorkableFrom ops width ns (items (drop i rows)) → WorkableFrom ops width ms (items (drop (i + 1) rows))
+  workable_then steps {ns = ns} l made h = rest_workable steps ops width (items (drop (i + 1) rows)) made (next ns l h)
+
+  pub one_left : (ns : List Node) → length rows ≤ i → WorkableFrom ops width ns (items (drop i rows)) → length ns ≡ 1
+  one_left ns l h = subst (λ rs. WorkableFrom ops width ns (items rs)) (drop_all i rows l) h
 
 module _ {S : Type 0} (steps : S → Making → Node → S → Type 0) where
   pub made_more : {s u t : S} {ns ms : List Node} {n : Node} (rows : List PassiveTermRow) (i : ℕ) → i < length rows
@@ -51,7 +54,8 @@ module _ {S : Type 0} (steps : S → Making → Node → S → Type 0) where
   made_more {s = s} {t = t} {ns = ns} {n = n} rows i l x y =
       subst (λ rs. TermMade steps s ns (items rs) t n) (sym (drop_more rows i no_row l)) (term_more x y)
 
-  pub made_none : {s : S} {ns : List Node} {n : Node} (rows : List PassiveTermRow) (i : ℕ) → length rows ≤ i → ns ≡ n ∷ []
+  pub made_none : {s : S} {n : Node} (rows : List PassiveTermRow) (i : ℕ) → length rows ≤ i → (ns left : List Node) → ns ≡ n ∷ left → length ns ≡ 1
       → TermMade steps s ns (items (drop i rows)) s n
-  made_none {s = s} {ns = ns} {n = n} rows i l e =
-      subst (λ rs. TermMade steps s ns (items rs) s n) (sym (drop_all i rows l)) (subst (λ ks. TermMade steps s ks [] s n) (sym e) term_done)
+  made_none {s = s} {n = n} rows i l ns left popped one =
+      subst (λ rs. TermMade steps s ns (items rs) s n) (sym (drop_all i rows l))
+      (subst (λ ks. TermMade steps s ks [] s n) (sym (popped ∙ ap (λ ks. n ∷ ks) (nil_from_length left (omega (arith, one, ap length popped))))) term_done)

@@ -1,5 +1,5 @@
 -- What the making of nodes asks of a store and of rows, so that no call is refused.
-use Rattle.std.specs.Prelude.{◌≡◌, ℕ, zero, suc, ◌+◌, ◌-◌, ◌<◌, ◌≤◌, true, List, [], ◌∷◌, length, None, slice_index_or}
+use Rattle.std.specs.Prelude.{◌≡◌, ℕ, ◌+◌, ◌<◌, ◌≤◌, true, List, [], ◌∷◌, length, None}
 use Rattle.kinds.specs.Kind.{KindOf}
 use Rattle.kinds.specs.declared.numbered.Node.{Node}
 use Rattle.kinds.specs.declared.numbered.Name.{Name}
@@ -10,22 +10,10 @@ use Rattle.passive.specs.Outcomes.{single_nodes, joint_nodes}
 use Rattle.passive.specs.Uses.{WorkableSingle}
 use Rattle.passive.specs.declared.rows.PassiveTermRow.{PassiveTermRow}
 use Rattle.passive.specs.declared.rows.PassiveRow.{PassiveRow}
-use Rattle.formula.specs.Store.{Making, make_literal, make_name, make_operation, make_same, make_not, make_and, make_or, Meaning, refused_by, node_no}
-use Rattle.conditions.specs.declared.making.Call.{Call}
-use Rattle.conditions.specs.declared.making.Call.TheVariants.{Literal, Named, Operation, Same, Not, And, Or}
-use Rattle.conditions.specs.declared.stacks.Stack.{Stack}
+use Rattle.formula.specs.declared.stores.Making.{Making}
+use Rattle.formula.specs.Store.{Meaning, refused_by}
 use Rattle.conditions.specs.Reading.{items, part, Reading, alone, joins, reading}
 use Rattle.conditions.specs.Made.{Ends, ends}
-
--- the call that the code passes on
-abbrev pub making : Call → Making
-making (Literal n) = make_literal n
-making (Named f) = make_name f
-making (Operation op p q) = make_operation op p q
-making (Same p q) = make_same p q
-making (Not p) = make_not p
-making (And p q) = make_and p q
-making (Or p q) = make_or p q
 
 -- the call is not refused
 abbrev pub Accepted : {V : Type 0} {S : Type 0} → KindOf V → Meaning V S → S → Making → Type 0
@@ -34,15 +22,6 @@ Accepted K M s c = refused_by K M s c ≡ None
 -- there is room for k more nodes
 abbrev pub Room : {V : Type 0} {S : Type 0} → Meaning V S → S → ℕ → Type 0
 Room M s k = M.count s + k ≤ M.capacity s
-
--- the lowest h nodes that wait, the last first
-abbrev pub waiting_in : List Node → ℕ → List Node
-waiting_in slots zero = []
-waiting_in slots (suc h) = slice_index_or slots h node_no ∷ waiting_in slots h
-
--- what waits on the code's stack
-abbrev pub waiting : Stack → List Node
-waiting k = waiting_in k.slots k.height
 
 -- each of the nodes is in use
 abbrev pub NodesUsed : {V : Type 0} {S : Type 0} → Meaning V S → S → List Node → Type 0
@@ -54,12 +33,6 @@ abbrev pub ItemWorkable : ℕ → ℕ → Item Name → ℕ → Type 0
 ItemWorkable ops width (Literal n) w = w < most_waiting
 ItemWorkable ops width (Reference f) w = (w < most_waiting) × (f.0 < width)
 ItemWorkable ops width (Operation k) w = (2 ≤ w) × (k < ops)
-
--- how many nodes wait after it
-abbrev pub waiting_then : Item Name → ℕ → ℕ
-waiting_then (Literal n) w = w + 1
-waiting_then (Reference f) w = w + 1
-waiting_then (Operation k) w = w - 1
 
 -- the code's three nodes
 abbrev pub ends_of : Node × Node × Node → Ends

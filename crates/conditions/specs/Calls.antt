@@ -11,7 +11,8 @@ use Rattle.passive.specs.declared.rows.PassiveTermRow.{PassiveTermRow}
 use Rattle.passive.specs.declared.rows.PassiveRow.{PassiveRow}
 use Rattle.passify.specs.declared.calls.FormMeasures.{FormMeasures}
 use Rattle.passify.specs.Calls.{most_names, form_measures, measure_answer}
-use Rattle.formula.specs.Store.{Making, Meaning}
+use Rattle.formula.specs.declared.stores.Making.{Making}
+use Rattle.formula.specs.Store.{Meaning}
 use Rattle.conditions.specs.declared.calls.Condition.{Condition}
 use Rattle.conditions.specs.Made.{ConditionMade}
 use Rattle.conditions.specs.Valued.{ConditionValued}

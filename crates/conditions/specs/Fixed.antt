@@ -3,7 +3,7 @@ use Rattle.std.specs.Prelude.{◌≡◌, List}
 use Rattle.kinds.specs.declared.numbered.Node.{Node}
 use Rattle.passive.specs.Passive.{Passive}
 use Rattle.passive.specs.declared.rows.PassiveRow.{PassiveRow}
-use Rattle.formula.specs.Store.{Making}
+use Rattle.formula.specs.declared.stores.Making.{Making}
 use Rattle.conditions.specs.Made.{ConditionMade}
 
 -- in stores that look alike, the same passive form has the same rows with the same nodes, and the same condition

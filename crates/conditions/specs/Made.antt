@@ -11,7 +11,9 @@ use Rattle.passive.specs.Passive.{PassiveSingle, p_assert, p_assume, p_let, p_sk
 use Rattle.passive.specs.Layout.{plain_row, layout, term_rows}
 use Rattle.passive.specs.declared.rows.PassiveTermRow.{PassiveTermRow}
 use Rattle.passive.specs.declared.rows.PassiveRow.{PassiveRow}
-use Rattle.formula.specs.Store.{Making, make_literal, make_name, make_operation, make_same, make_not, make_and, make_or, node_no, node_yes}
+use Rattle.formula.specs.declared.stores.Making.{Making}
+use Rattle.formula.specs.declared.stores.Making.TheVariants as making
+use Rattle.formula.specs.Store.{node_no, node_yes}
 use Rattle.conditions.specs.Reading.{items, part, Reading, alone, joins, reading}
 
 -- the nodes that say whether a form may end normally, raised or wrong
@@ -45,11 +47,11 @@ module _ {S : Type 0} (steps : S → Making → Node → S → Type 0) where
   -- one node for an item of a term, where nodes wait, the last first: an operation takes the last two, the earlier as first operand
   pub data ItemMade : S → List Node → Item Name → S → List Node → Type 0 where
     literal_made : {s t : S} {waiting : List Node} {k : ℕ} {n : Node}
-        → steps s (make_literal k) n t → ItemMade s waiting (Literal k) t (n ∷ waiting)
+        → steps s (making.Literal k) n t → ItemMade s waiting (Literal k) t (n ∷ waiting)
     name_made : {s t : S} {waiting : List Node} {f : Name} {n : Node}
-        → steps s (make_name f) n t → ItemMade s waiting (Reference f) t (n ∷ waiting)
+        → steps s (making.Name f) n t → ItemMade s waiting (Reference f) t (n ∷ waiting)
     operation_made : {s t : S} {waiting : List Node} {k : ℕ} {p q n : Node}
-        → steps s (make_operation k p q) n t → ItemMade s (q ∷ (p ∷ waiting)) (Operation k) t (n ∷ waiting)
+        → steps s (making.Operation k p q) n t → ItemMade s (q ∷ (p ∷ waiting)) (Operation k) t (n ∷ waiting)
 
   -- one node for each item of a term, in order: the one that waits at the end is the term's node
   pub data TermMade : S → List Node → Term Name → S → Node → Type 0 where
@@ -60,11 +62,11 @@ module _ {S : Type 0} (steps : S → Making → Node → S → Type 0) where
   -- the nodes of a row that stands alone
   pub data SingleMade : S → PassiveSingle → S → Ends → Type 0 where
     assert_made : {s u t : S} {is : Term Name} {n w : Node}
-        → TermMade s [] is u n → steps u (make_not n) w t → SingleMade s (p_assert is) t (ends n node_no w)
+        → TermMade s [] is u n → steps u (making.Not n) w t → SingleMade s (p_assert is) t (ends n node_no w)
     assume_made : {s t : S} {is : Term Name} {n : Node}
         → TermMade s [] is t n → SingleMade s (p_assume is) t (ends n node_no node_no)
     let_made : {s u v t : S} {f : Name} {is : Term Name} {m k n : Node}
-        → steps s (make_name f) m u → TermMade u [] is v k → steps v (make_same m k) n t
+        → steps s (making.Name f) m u → TermMade u [] is v k → steps v (making.Same m k) n t
         → SingleMade s (p_let f is) t (ends n node_no node_no)
     skip_made : {s : S} → SingleMade s p_skip s (ends node_yes node_no node_no)
     raise_made : {s : S} → SingleMade s p_raise s (ends node_no node_yes node_no)
@@ -73,21 +75,21 @@ module _ {S : Type 0} (steps : S → Making → Node → S → Type 0) where
   -- the node of p or (q and r): first the inner one
   pub data OrAndMade : S → Node → Node → Node → S → Node → Type 0 where
     or_and_made : {s u t : S} {p q r m n : Node}
-        → steps s (make_and q r) m u → steps u (make_or p m) n t → OrAndMade s p q r t n
+        → steps s (making.And q r) m u → steps u (making.Or p m) n t → OrAndMade s p q r t n
 
   -- the nodes of a row that joins two parts, whose nodes are a and b
   pub data JointMade : S → Joint → Ends → Ends → S → Ends → Type 0 where
     -- N = NA and NB; X = XA or (NA and XB); W = WA or (NA and WB)
     sequence_made : {s u v t : S} {a b : Ends} {n x w : Node}
-        → steps s (make_and a.N b.N) n u → OrAndMade u a.X a.N b.X v x → OrAndMade v a.W a.N b.W t w
+        → steps s (making.And a.N b.N) n u → OrAndMade u a.X a.N b.X v x → OrAndMade v a.W a.N b.W t w
         → JointMade s Sequence a b t (ends n x w)
     -- N = NA or (XA and NB); X = XA and XB; W = WA or (XA and WB)
     catch_made : {s u v t : S} {a b : Ends} {n x w : Node}
-        → OrAndMade s a.N a.X b.N u n → steps u (make_and a.X b.X) x v → OrAndMade v a.W a.X b.W t w
+        → OrAndMade s a.N a.X b.N u n → steps u (making.And a.X b.X) x v → OrAndMade v a.W a.X b.W t w
         → JointMade s Catch a b t (ends n x w)
     -- N = NA or NB; X = XA or XB; W = WA or WB
     choice_made : {s u v t : S} {a b : Ends} {n x w : Node}
-        → steps s (make_or a.N b.N) n u → steps u (make_or a.X b.X) x v → steps v (make_or a.W b.W) w t
+        → steps s (making.Or a.N b.N) n u → steps u (making.Or a.X b.X) x v → steps v (making.Or a.W b.W) w t
         → JointMade s Choice a b t (ends n x w)
 
   -- the nodes of a row that says this, where a is the row at `left` and b the row before
@@ -107,7 +109,7 @@ module _ {S : Type 0} (steps : S → Making → Node → S → Type 0) where
   pub record TableMade (terms : List PassiveTermRow) (rows : List PassiveRow) (s : S) (all : List PassiveRow) (n : Node) (t : S) : Type 0 where
     pub between : S
     pub rows_made : RowsMade terms s [] rows between all
-    pub last_made : steps between (make_not (last_ends all).W) n t
+    pub last_made : steps between (making.Not (last_ends all).W) n t
 
   -- the same for a passive form, laid out from the front of the tables
   abbrev pub ConditionMade : Passive → S → List PassiveRow → Node → S → Type 0

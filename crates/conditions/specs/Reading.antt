@@ -1,11 +1,13 @@
 -- What a row of a passive form says, read from the tables.
-use Rattle.std.specs.Prelude.{ℕ, cond, List, map, take, drop, ◌==◌}
+use Rattle.std.specs.Prelude.{List, map, take, drop}
+use Rattle.std.specs.Result.{result_unwrap_or}
 use Rattle.kinds.specs.declared.numbered.Name.{Name}
 use Rattle.routine.specs.declared.rows.Joint.{Joint}
-use Rattle.routine.specs.declared.rows.Joint.TheVariants.{Sequence, Choice, Catch}
 use Rattle.routine.specs.Commands.{Term}
-use Rattle.passive.specs.Passive.{name, PassiveSingle, p_assert, p_assume, p_let, p_skip, p_raise, p_stop}
-use Rattle.passive.specs.Rows.{item}
+use Rattle.passive.specs.Passive.{PassiveSingle, p_assert, p_assume, p_let, p_skip, p_raise, p_stop}
+use Rattle.passive.specs.Rows.{item, tag_of}
+use Rattle.passive.specs.declared.rows.PassiveTag.{PassiveTag}
+use Rattle.passive.specs.declared.rows.PassiveTag.TheVariants.{Assert, Assume, Skip, Raise, Join, Let, Stop}
 use Rattle.passive.specs.declared.rows.PassiveTermRow.{PassiveTermRow}
 use Rattle.passive.specs.declared.rows.PassiveRow.{PassiveRow}
 
@@ -22,19 +24,16 @@ pub data Reading : Type 0 where
   alone : PassiveSingle → Reading
   joins : Joint → Reading
 
--- what a row of this tag says, where its term is t: 1 assert, 2 assume, 4 skip, 5 raise, 6 sequence, 7 choice, 8 catch, 9 let, and else stop, 10
-abbrev pub reading_at : ℕ → PassiveRow → Term Name → Reading
-reading_at tag r t =
-    cond (tag == 1) (alone (p_assert t))
-    (cond (tag == 2) (alone (p_assume t))
-    (cond (tag == 4) (alone p_skip)
-    (cond (tag == 5) (alone p_raise)
-    (cond (tag == 6) (joins Sequence)
-    (cond (tag == 7) (joins Choice)
-    (cond (tag == 8) (joins Catch)
-    (cond (tag == 9) (alone (p_let r.f t))
-    (alone p_stop))))))))
+-- what a row with this tag says, where its term is t
+abbrev pub reading_as : PassiveTag → PassiveRow → Term Name → Reading
+reading_as Assert r t = alone (p_assert t)
+reading_as Assume r t = alone (p_assume t)
+reading_as Skip r t = alone p_skip
+reading_as Raise r t = alone p_raise
+reading_as (Join j) r t = joins j
+reading_as Let r t = alone (p_let r.f t)
+reading_as Stop r t = alone p_stop
 
--- what a row says, where its term is t
+-- what a row says, where its term is t: one whose tag is not known stops
 abbrev pub reading : PassiveRow → Term Name → Reading
-reading r t = reading_at r.tag r t
+reading r t = reading_as (result_unwrap_or (tag_of r.tag) Stop) r t

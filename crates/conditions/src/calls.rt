@@ -12,11 +12,9 @@ use formula::stores::Store;
 use kinds::kind::Kind;
 use kinds::numbered::Node;
 use kinds::refusals::Refusal;
-use passify::calls::{FormLengths, FormMeasures, measure, passify};
+use passify::calls::{FormLengths, FormMeasures, MOST_NAMES, measure, passify};
 use passive::rows::{PassiveRow, PassiveTermRow};
 use routine::rows::{CommandRow, TermRow};
-
-const MOST_NAMES: u32 = 4096;
 
 // A condition that was made: its node, the names of the passive form, how many rows of the two tables that takes, and by how much the
 // count of the store rose.
@@ -65,25 +63,6 @@ pub fn forecast<S: Store>(
     find_room(store, form, row_room, term_room)
 }
 
-// Writes a passive form that is known to be accepted.
-fn write_form<K: Kind>(
-    v: u32,
-    commands: &[CommandRow],
-    terms: &[TermRow],
-    rows: &mut [PassiveRow],
-    out: &mut [PassiveTermRow],
-) -> FormLengths
-    requires { is_ok (passify_answer v (decode v K.kind.ops commands.now terms.now) (length rows.old) (length out.old)) ≡ true }
-    ensures answer { Ok result ≡ passify_answer v (decode v K.kind.ops commands.now terms.now) (length rows.old) (length out.old) }
-    ensures rows { rows.new ≡ rows_after v (decode v K.kind.ops commands.now terms.now) (Ok result) rows.old }
-    ensures terms { out.new ≡ terms_after v (decode v K.kind.ops commands.now terms.now) (Ok result) out.old }
-{
-    match passify::<K>(v, commands, terms, rows, out) {
-        Ok(form) => form,
-        Err(_) => unreachable(),
-    }
-}
-
 // Makes the condition of a routine in the store: a node that is true under exactly the covered assignments under which the passive form
 // does not end wrong. The passive form stands at the front of the two tables afterwards, with the nodes of each row in it. A refusal
 // leaves store and tables as they were.
@@ -100,7 +79,8 @@ pub fn make_condition<S: Store>(
     ensures evaluators { ConditionFixed SameValues (evaluator_steps S.Value.kind) }
 {
     forecast(store, v, commands, terms, rows.len(), out.len())?;
-    let form = write_form::<S::Value>(v, commands, terms, rows, out);
+    // What the forecast accepts is not refused here.
+    let form = passify::<S::Value>(v, commands, terms, rows, out)?;
     let before = store.count();
     let node = condition_node(
         store,

@@ -4,9 +4,9 @@ ghost use Rattle.conditions.specs.Made.{ends_at, last_ends, RowsMade, TableMade}
 ghost use Rattle.conditions.specs.Valued.{RowsUsed};
 ghost use Rattle.conditions.specs.Asks.{Room, ends_of, RowsFit, rows_nodes};
 
-use crate::making::{Call, make};
+use crate::making::make;
 use crate::rows::{NO, row_nodes};
-use formula::stores::Store;
+use formula::stores::{Making, Store};
 use kinds::numbered::Node;
 use passive::rows::{PassiveRow, PassiveTermRow};
 
@@ -32,18 +32,15 @@ fn form_nodes<S: Store>(
     ensures last { ends_of result ≡ last_ends rows.new }
 {
     let mut last = (NO, NO, NO);
+    // By index, since a row takes nodes that were written into earlier ones.
     for i in 0..rows.len() {
         let row = rows[i];
         let first = row.from as usize;
         let term = &terms[first..first + row.count as usize];
         let left = nodes_at(rows, row.left);
         last = row_nodes(store, row, term, left, last);
-        rows[i] = PassiveRow {
-            n: last.0,
-            x: last.1,
-            w: last.2,
-            ..row
-        };
+        let (n, x, w) = last;
+        rows[i] = PassiveRow { n, x, w, ..row };
     }
     last
 }
@@ -60,5 +57,5 @@ pub fn condition_node<S: Store>(
     ensures { TableMade S.steps terms.now rows.old store.old rows.new result store.new }
 {
     let (_, _, wrong) = form_nodes(store, rows, terms);
-    make(store, Call::Not(wrong))
+    make(store, Making::Not(wrong))
 }

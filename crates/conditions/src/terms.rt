@@ -1,37 +1,33 @@
 // The nodes of a term.
-ghost use Rattle.std.specs.Prelude.{◌≡◌, ◌<◌, ◌≤◌, [], length};
+ghost use Rattle.std.specs.Prelude.{◌≡◌, ◌<◌, [], length};
 ghost use Rattle.passive.specs.Uses.{WorkableUnder};
-ghost use Rattle.passive.specs.Rows.{item};
 ghost use Rattle.conditions.specs.Reading.{items};
 ghost use Rattle.conditions.specs.Made.{ItemMade, TermMade};
-ghost use Rattle.conditions.specs.Asks.{waiting, NodesUsed, Room, ItemWorkable, waiting_then};
+ghost use Rattle.conditions.specs.Asks.{NodesUsed, Room, ItemWorkable};
 
-use crate::making::{Call, make};
+use crate::making::make;
 use crate::stacks::Stack;
-use formula::stores::Store;
+use formula::stores::{Making, Store};
 use kinds::numbered::{Name, Node};
 use passive::rows::PassiveTermRow;
+use routine::rows::Item;
 
-// The node of one row of a term, which then waits in place of those that it took.
-fn row_node<S: Store>(store: &mut S, stack: &mut Stack, row: PassiveTermRow)
-    requires workable { ItemWorkable S.Value.kind.ops (S.meaning.width store.old) (item row) stack.old.height }
-    requires few { stack.old.height ≤ 16 }
-    requires used { NodesUsed S.meaning store.old (waiting stack.old) }
+// The node of one item of a term, which then waits in place of those that it took.
+fn item_node<S: Store>(store: &mut S, stack: &mut Stack, item: Item<Name>)
+    requires workable { ItemWorkable S.Value.kind.ops (S.meaning.width store.old) item (length stack.old) }
+    requires used { NodesUsed S.meaning store.old stack.old }
     requires room { Room S.meaning store.old 1 }
-    ensures made { ItemMade S.steps store.old (waiting stack.old) (item row) store.new (waiting stack.new) }
-    ensures height { stack.new.height ≡ waiting_then (item row) stack.old.height }
+    ensures { ItemMade S.steps store.old stack.old item store.new stack.new }
 {
-    let call = match row.tag {
-        1 => Call::Literal(row.number),
-        2 => Call::Named(Name(row.number)),
-        _ => {
+    match item {
+        Item::Literal(n) => stack.push(make(store, Making::Literal(n))),
+        Item::Reference(f) => stack.push(make(store, Making::Name(f))),
+        Item::Operation(op) => {
             let q = stack.pop();
             let p = stack.pop();
-            Call::Operation(row.number, p, q)
+            stack.push(make(store, Making::Operation(op, p, q)));
         }
-    };
-    let node = make(store, call);
-    stack.push(node);
+    }
 }
 
 // The node of a term: one node for each of its rows, in order.
@@ -42,7 +38,7 @@ pub fn term_node<S: Store>(store: &mut S, terms: &[PassiveTermRow]) -> Node
 {
     let mut stack = Stack::new();
     for row in terms {
-        row_node(store, &mut stack, *row);
+        item_node(store, &mut stack, Item::from(*row));
     }
     stack.pop()
 }

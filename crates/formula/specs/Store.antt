@@ -1,19 +1,11 @@
 -- Stores of nodes: what a store means, when a making call is refused, and what an accepted one does.
 use Rattle.std.specs.Prelude.{◌≡◌, ℕ, ◌+◌, ◌≤◌, min, Bool, true, false, cond, not, ◌&&◌, ◌||◌, ◌↔◌, List, [], ◌∷◌, length, Some, None, Ok, Err, Option, Result, ◌==◌, nat_lt, slice_index_or}
 use Rattle.kinds.specs.Kind.{KindOf}
-use Rattle.kinds.specs.declared.numbered.Name.{Name}
 use Rattle.kinds.specs.declared.numbered.Node.{Node}
 use Rattle.kinds.specs.declared.refusals.Refusal.{Refusal}
 use Rattle.kinds.specs.declared.refusals.Refusal.TheVariants.{Term, Names, NotInUse, Places}
-
--- the making calls: a literal of this number, a name, the operation of this number on two nodes, and four of nodes alone
-pub data Making : Type 0 where
-  make_literal : ℕ → Making
-  make_name : Name → Making
-  make_operation : ℕ → Node → Node → Making
-  make_same : Node → Node → Making
-  make_not : Node → Making
-  make_and make_or : Node → Node → Making
+use Rattle.formula.specs.declared.stores.Making.{Making}
+use Rattle.formula.specs.declared.stores.Making.TheVariants as making
 
 -- what a store is: how many nodes it has room for, how many names an assignment has a value for, how many nodes are in
 -- use and which, which assignments it covers, and the value of each node in use under each of these
@@ -34,45 +26,45 @@ yes_or_no K b = cond b K.yes K.no
 -- the value that a making call states, where the nodes have the values `at` and the names those of the assignment a,
 -- which has one for each name below the width
 abbrev pub stated : {V : Type 0} → KindOf V → (Node → V) → List V → Making → V
-stated K at a (make_literal n) = K.literal n
-stated K at a (make_name f) = slice_index_or a f.0 K.no
-stated K at a (make_operation op p q) = K.operate op (at p) (at q)
-stated K at a (make_same p q) = yes_or_no K (K.same (at p) (at q))
-stated K at a (make_not p) = yes_or_no K (not (K.truth (at p)))
-stated K at a (make_and p q) = yes_or_no K (K.truth (at p) && K.truth (at q))
-stated K at a (make_or p q) = yes_or_no K (K.truth (at p) || K.truth (at q))
+stated K at a (making.Literal n) = K.literal n
+stated K at a (making.Name f) = slice_index_or a f.0 K.no
+stated K at a (making.Operation op p q) = K.operate op (at p) (at q)
+stated K at a (making.Same p q) = yes_or_no K (K.same (at p) (at q))
+stated K at a (making.Not p) = yes_or_no K (not (K.truth (at p)))
+stated K at a (making.And p q) = yes_or_no K (K.truth (at p) && K.truth (at q))
+stated K at a (making.Or p q) = yes_or_no K (K.truth (at p) || K.truth (at q))
 
 -- when a call is refused
 
 -- each operation that a call speaks of is one of the first `ops`
 abbrev pub operation_known : ℕ → Making → Bool
-operation_known ops (make_literal n) = true
-operation_known ops (make_name f) = true
-operation_known ops (make_operation op p q) = nat_lt op ops
-operation_known ops (make_same p q) = true
-operation_known ops (make_not p) = true
-operation_known ops (make_and p q) = true
-operation_known ops (make_or p q) = true
+operation_known ops (making.Literal n) = true
+operation_known ops (making.Name f) = true
+operation_known ops (making.Operation op p q) = nat_lt op ops
+operation_known ops (making.Same p q) = true
+operation_known ops (making.Not p) = true
+operation_known ops (making.And p q) = true
+operation_known ops (making.Or p q) = true
 
 -- each name that a call speaks of is below the width
 abbrev pub name_below : ℕ → Making → Bool
-name_below width (make_literal n) = true
-name_below width (make_name f) = nat_lt f.0 width
-name_below width (make_operation op p q) = true
-name_below width (make_same p q) = true
-name_below width (make_not p) = true
-name_below width (make_and p q) = true
-name_below width (make_or p q) = true
+name_below width (making.Literal n) = true
+name_below width (making.Name f) = nat_lt f.0 width
+name_below width (making.Operation op p q) = true
+name_below width (making.Same p q) = true
+name_below width (making.Not p) = true
+name_below width (making.And p q) = true
+name_below width (making.Or p q) = true
 
 -- each node that a call speaks of is in use
 abbrev pub nodes_used : (Node → Bool) → Making → Bool
-nodes_used used (make_literal n) = true
-nodes_used used (make_name f) = true
-nodes_used used (make_operation op p q) = used p && used q
-nodes_used used (make_same p q) = used p && used q
-nodes_used used (make_not p) = used p
-nodes_used used (make_and p q) = used p && used q
-nodes_used used (make_or p q) = used p && used q
+nodes_used used (making.Literal n) = true
+nodes_used used (making.Name f) = true
+nodes_used used (making.Operation op p q) = used p && used q
+nodes_used used (making.Same p q) = used p && used q
+nodes_used used (making.Not p) = used p
+nodes_used used (making.And p q) = used p && used q
+nodes_used used (making.Or p q) = used p && used q
 
 -- this refusal, unless the test holds: then what comes next decides
 abbrev pub unless : Bool → Refusal → Option Refusal → Option Refusal

@@ -1,25 +1,29 @@
 -- The table store is a store, and its rows stand.
-use Rattle.std.specs.Prelude.{◌≡◌, ℕ, ◌+◌, ◌-◌, ◌<◌, List, [], ◌∷◌, ◌++◌, length, get_or, vec_items, vec_len, slice_index_or, refl}
+use Rattle.std.specs.Prelude.{◌≡◌, ℕ, ◌+◌, ◌-◌, ◌<◌, List, [], ◌∷◌, ◌++◌, length, get_or, vec_items, slice_index_or, refl}
 use Rattle.std.proofs.Common.{ap, sym, ◌∙◌, arith}
-use Rattle.std.proofs.lemmas.List.{length-set, length-take-le, length_push, get_or_append_left, get_or_push, take_more_set}
-use Rattle.std.proofs.lemmas.Bool.{lt-ltb, ltb-true}
+use Rattle.std.proofs.lemmas.List.{length-take-le, length_push, get_or_append_left, get_or_push, take_more_set}
+use Rattle.std.proofs.lemmas.Bool.{ltb-true}
 use Rattle.kinds.specs.Kind.{KindOf}
 use Rattle.kinds.specs.declared.numbered.Node.{Node}
-use Rattle.formula.specs.Store.{Making, make_literal, make_name, make_operation, make_same, make_not, make_and, make_or, stated, Lawful, Makes}
+use Rattle.formula.specs.declared.stores.Making.{Making}
+use Rattle.formula.specs.declared.stores.Making.TheVariants as making
+use Rattle.formula.specs.Store.{stated, Lawful, Makes}
 use Rattle.formula.specs.Tables.{making_of, row_of, with_rows, rows_used, node_values, table_meaning, table_steps}
 use Rattle.formula.specs.declared.tables.NodeRow.{NodeRow}
 use Rattle.formula.specs.declared.tables.TableStore.{TableStore}
 use Rattle.formula.specs.CountLaws.{below_counted}
+use Rattle.formula.specs.Nodes.{place_of}
+use Rattle.formula.specs.NodeLaws.{no_below, yes_below, same_room, place_inside, next_below, still_below}
 
 -- a row tells its call
 making_row : (c : Making) → making_of (row_of c) ≡ c
-making_row (make_literal n) = refl
-making_row (make_name f) = refl
-making_row (make_operation op p q) = refl
-making_row (make_same p q) = refl
-making_row (make_not p) = refl
-making_row (make_and p q) = refl
-making_row (make_or p q) = refl
+making_row (making.Literal n) = refl
+making_row (making.Name f) = refl
+making_row (making.Operation op p q) = refl
+making_row (making.Same p q) = refl
+making_row (making.Not p) = refl
+making_row (making.And p q) = refl
+making_row (making.Or p q) = refl
 
 -- values row by row
 
@@ -48,33 +52,31 @@ module _ {V : Type 0} (K : KindOf V) where
   abbrev start : List V
   start = K.no ∷ K.yes ∷ []
 
-  used_length : (s : TableStore V) → length (rows_used s) ≡ s.count - 2
-  used_length s = length-take-le (s.count - 2) (vec_items s.rows) (omega (arith, s.rows.ok.0))
+  used_length : (s : TableStore V) → length (rows_used s) ≡ s.nodes.count - 2
+  used_length s = length-take-le (s.nodes.count - 2) (vec_items s.nodes.items) (omega (arith, s.nodes.items.ok.0))
 
-  values_length : (s : TableStore V) (a : List V) → length (node_values K s a) ≡ s.count
-  values_length s a = omega (arith, with_length K a start (rows_used s), used_length s, s.two)
+  values_length : (s : TableStore V) (a : List V) → length (node_values K s a) ≡ s.nodes.count
+  values_length s a = omega (arith, with_length K a start (rows_used s), used_length s, s.nodes.two)
 
   pub table_lawful : (s : TableStore V) → Lawful K (table_meaning K) s
   table_lawful s = record {
-    counted = below_counted s.count;
-    two = s.two;
-    placed = s.placed;
-    no_used = lt-ltb 0 s.count (omega (arith, s.two));
-    yes_used = lt-ltb 1 s.count (omega (arith, s.two));
+    counted = below_counted s.nodes.count;
+    two = s.nodes.two;
+    placed = s.nodes.placed;
+    no_used = no_below s.nodes;
+    yes_used = yes_below s.nodes;
     zero_no = λ a h. with_kept K a start (rows_used s) 0 (omega arith);
     one_yes = λ a h. with_kept K a start (rows_used s) 1 (omega arith);
     wide = λ a h. h;
   }
 
   module _ (s : TableStore V) (c : Making) (n : Node) (t : TableStore V) (step : table_steps s c n t) where
-    same_rows : vec_len t.rows ≡ vec_len s.rows
-    same_rows = omega (arith, s.rows.ok.0, t.rows.ok.0, ap length step.rows, length-set (vec_items s.rows) (s.count - 2) (row_of c))
-
     more_rows : rows_used t ≡ rows_used s ++ (row_of c ∷ [])
     more_rows =
-        let inside : s.count - 2 < length (vec_items s.rows) = omega (arith, s.rows.ok.0, same_rows, t.placed, s.two, step.count) in
-        let more : t.count - 2 ≡ s.count - 2 + 1 = omega (arith, s.two, step.count) in
-        rw (more, step.rows) (take_more_set (vec_items s.rows) (s.count - 2) (row_of c) inside)
+        let inside : s.nodes.count - 2 < length (vec_items s.nodes.items) = omega (arith, place_inside step.0) in
+        let more : t.nodes.count - 2 ≡ s.nodes.count - 2 + 1 = omega (arith, s.nodes.two, step.0.count) in
+        let place : place_of s.nodes s.nodes.count ≡ s.nodes.count - 2 = omega (arith, s.all) in
+        rw (more, step.0.items, place) (take_more_set (vec_items s.nodes.items) (s.nodes.count - 2) (row_of c) inside)
 
     more_values : (a : List V) → node_values K t a ≡ node_values K s a ++ (called K a (node_values K s a) c ∷ [])
     more_values a =
@@ -84,19 +86,19 @@ module _ {V : Type 0} (K : KindOf V) where
 
     pub table_sound : Makes K (table_meaning K) s c n t
     table_sound = record {
-      used = lt-ltb n.0 t.count (omega (arith, step.next, step.count));
+      used = next_below step.0;
       grown = record {
-        grows = omega (arith, step.count);
-        few = omega (arith, step.count);
-        capacity_same = omega (arith, same_rows);
-        width_same = step.width;
-        covers_same = λ a. (λ h. h ∙ step.width, λ h. h ∙ sym step.width);
-        still_used = λ m u. lt-ltb m.0 t.count (omega (arith, ltb-true m.0 s.count u, step.count));
+        grows = omega (arith, step.0.count);
+        few = omega (arith, step.0.count);
+        capacity_same = same_room step.0;
+        width_same = step.1;
+        covers_same = λ a. (λ h. h ∙ step.1, λ h. h ∙ sym step.1);
+        still_used = still_below step.0;
         kept = λ m a u h.
             ap (λ vs. get_or vs m.0 K.no) (more_values a)
-            ∙ get_or_append_left (node_values K s a) _ K.no m.0 (omega (arith, values_length s a, ltb-true m.0 s.count u));
+            ∙ get_or_append_left (node_values K s a) _ K.no m.0 (omega (arith, values_length s a, ltb-true m.0 s.nodes.count u));
       };
       as_stated = λ a h.
           ap (λ vs. get_or vs n.0 K.no) (more_values a)
-          ∙ get_or_push (node_values K s a) _ K.no n.0 (values_length s a ∙ sym step.next);
+          ∙ get_or_push (node_values K s a) _ K.no n.0 (values_length s a ∙ sym step.0.next);
     }

@@ -1,11 +1,14 @@
 -- What the table store holds: a row for each node from 2 on, which says how the node was made.
-use Rattle.std.specs.Prelude.{◌≡◌, ℕ, ◌+◌, ◌-◌, true, cond, ◌&&◌, List, [], ◌∷◌, ◌++◌, length, get_or, take, Ok, Err, vec_items, vec_len, Option, Result, ◌==◌, nat_le, slice_index_or, slice_set}
+use Rattle.std.specs.Prelude.{◌≡◌, ℕ, ◌-◌, true, cond, ◌&&◌, List, [], ◌∷◌, ◌++◌, length, get_or, take, Ok, Err, vec_items, Option, Result, ◌==◌, nat_le, slice_index_or}
 use Rattle.kinds.specs.Kind.{KindOf}
 use Rattle.kinds.specs.declared.numbered.Name.{Name}
 use Rattle.kinds.specs.declared.numbered.Node.{Node}
 use Rattle.kinds.specs.declared.refusals.Refusal.{Refusal}
 use Rattle.kinds.specs.declared.refusals.Refusal.TheVariants.{NotInUse}
-use Rattle.formula.specs.Store.{Making, make_literal, make_name, make_operation, make_same, make_not, make_and, make_or, stated, Meaning, unless, free_place, capacity_of, below}
+use Rattle.formula.specs.declared.stores.Making.{Making}
+use Rattle.formula.specs.declared.stores.Making.TheVariants as making
+use Rattle.formula.specs.Store.{stated, Meaning, unless, below}
+use Rattle.formula.specs.Nodes.{room_of, no_place, NodeAdded, SameNodes}
 use Rattle.formula.specs.declared.tables.NodeRow.{NodeRow}
 use Rattle.formula.specs.declared.tables.TableStore.{TableStore}
 
@@ -16,13 +19,13 @@ node_row tag operation first second = record { tag = tag; operation = operation;
 
 -- the row of a making call
 abbrev pub row_of : Making → NodeRow
-row_of (make_literal n) = node_row 1 0 n 0
-row_of (make_name f) = node_row 2 0 f.0 0
-row_of (make_operation op p q) = node_row 3 op p.0 q.0
-row_of (make_same p q) = node_row 4 0 p.0 q.0
-row_of (make_not p) = node_row 5 0 p.0 0
-row_of (make_and p q) = node_row 6 0 p.0 q.0
-row_of (make_or p q) = node_row 7 0 p.0 q.0
+row_of (making.Literal n) = node_row 1 0 n 0
+row_of (making.Name f) = node_row 2 0 f.0 0
+row_of (making.Operation op p q) = node_row 3 op p.0 q.0
+row_of (making.Same p q) = node_row 4 0 p.0 q.0
+row_of (making.Not p) = node_row 5 0 p.0 0
+row_of (making.And p q) = node_row 6 0 p.0 q.0
+row_of (making.Or p q) = node_row 7 0 p.0 q.0
 
 abbrev pub first_name : NodeRow → Name
 first_name row = record { 0 = row.first }
@@ -36,13 +39,13 @@ second_node row = record { 0 = row.second }
 -- the making call of a row
 abbrev pub making_of : NodeRow → Making
 making_of row =
-    cond (row.tag == 1) (make_literal row.first)
-    (cond (row.tag == 2) (make_name (first_name row))
-    (cond (row.tag == 3) (make_operation row.operation (first_node row) (second_node row))
-    (cond (row.tag == 4) (make_same (first_node row) (second_node row))
-    (cond (row.tag == 5) (make_not (first_node row))
-    (cond (row.tag == 6) (make_and (first_node row) (second_node row))
-    (make_or (first_node row) (second_node row)))))))
+    cond (row.tag == 1) (making.Literal row.first)
+    (cond (row.tag == 2) (making.Name (first_name row))
+    (cond (row.tag == 3) (making.Operation row.operation (first_node row) (second_node row))
+    (cond (row.tag == 4) (making.Same (first_node row) (second_node row))
+    (cond (row.tag == 5) (making.Not (first_node row))
+    (cond (row.tag == 6) (making.And (first_node row) (second_node row))
+    (making.Or (first_node row) (second_node row)))))))
 
 -- values
 
@@ -54,7 +57,7 @@ with_rows K a before (row ∷ rows) = with_rows K a (before ++ (stated K (λ n. 
 module _ {V : Type 0} where
   -- the rows of the nodes in use
   abbrev pub rows_used : TableStore V → List NodeRow
-  rows_used s = take (s.count - 2) (vec_items s.rows)
+  rows_used s = take (s.nodes.count - 2) (vec_items s.nodes.items)
 
   -- the values of the nodes in use
   abbrev pub node_values : KindOf V → TableStore V → List V → List V
@@ -63,44 +66,36 @@ module _ {V : Type 0} where
   -- a table store has the capacity of its rows and covers every assignment of its width
   abbrev pub table_meaning : KindOf V → Meaning V (TableStore V)
   table_meaning K = record {
-    capacity = λ s. capacity_of (vec_len s.rows);
+    capacity = λ s. room_of s.nodes;
     width = λ s. s.width;
-    count = λ s. s.count;
-    in_use = λ s. below s.count;
+    count = λ s. s.nodes.count;
+    in_use = λ s. below s.nodes.count;
     covers = λ s a. length a ≡ s.width;
     value = λ s n a. slice_index_or (node_values K s a) n.0 K.no;
   }
 
-  -- the row became that of n, the next node, and nothing else changed
-  pub record RowPlaced (s : TableStore V) (row : NodeRow) (n : Node) (t : TableStore V) : Type 0 where
-    pub next : n.0 ≡ s.count
-    pub count : t.count ≡ s.count + 1
-    pub width : t.width ≡ s.width
-    pub rows : vec_items t.rows ≡ slice_set (vec_items s.rows) (s.count - 2) row
-
-  -- what an accepted making call does
+  -- what an accepted making call does: the next node gets its row, and the width stays
   abbrev pub table_steps : TableStore V → Making → Node → TableStore V → Type 0
-  table_steps s c n t = RowPlaced s (row_of c) n t
+  table_steps s c n t = NodeAdded s.nodes (row_of c) n t.nodes × (t.width ≡ s.width)
 
   -- whether a row of two nodes is refused, and why
-  abbrev pub combine_refusal : KindOf V → TableStore V → Node → Node → Option Refusal
-  combine_refusal K s p q = unless (below s.count p && below s.count q) NotInUse (free_place (table_meaning K) s)
+  abbrev pub combine_refusal : TableStore V → Node → Node → Option Refusal
+  combine_refusal s p q = unless (below s.nodes.count p && below s.nodes.count q) NotInUse (no_place s.nodes)
 
   -- the row of a node from 2 on
   abbrev pub row_asked : TableStore V → Node → Result NodeRow Refusal
   row_asked s n =
-      cond (nat_le 2 n.0 && below s.count n)
-      (Ok (slice_index_or (vec_items s.rows) (n.0 - 2) (node_row 0 0 0 0)))
+      cond (nat_le 2 n.0 && below s.nodes.count n)
+      (Ok (slice_index_or (vec_items s.nodes.items) (n.0 - 2) (node_row 0 0 0 0)))
       (Err NotInUse)
 
-  -- two table stores look alike: they have the same count, width and rows
+  -- two table stores look alike: they have the same width, count and rows
   pub record SameTable (s s' : TableStore V) : Type 0 where
-    pub count : s.count ≡ s'.count
+    pub nodes : SameNodes s.nodes s'.nodes
     pub width : s.width ≡ s'.width
-    pub rows : vec_items s.rows ≡ vec_items s'.rows
 
 -- the row asked of a node is that of the call that made it, now and after any later call
 abbrev pub RowsStand : Type 0 → Type 0
 RowsStand V =
     (s : TableStore V) (c : Making) (n : Node) (t : TableStore V) → table_steps s c n t →
-    (row_asked t n ≡ Ok (row_of c)) × ((m : Node) → below s.count m ≡ true → row_asked t m ≡ row_asked s m)
+    (row_asked t n ≡ Ok (row_of c)) × ((m : Node) → below s.nodes.count m ≡ true → row_asked t m ≡ row_asked s m)

@@ -3,5 +3,6 @@
 #![tactic(auto)]
 
 pub mod evaluators;
+mod nodes;
 pub mod stores;
 pub mod tables;

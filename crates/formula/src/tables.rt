@@ -1,7 +1,8 @@
 // A store that keeps a row for each node.
-ghost use Rattle.std.specs.Prelude.{◌≤◌, vec_len};
-ghost use Rattle.formula.specs.Store.{capacity_of};
+ghost use Rattle.std.specs.Prelude.{◌≡◌};
 
+use crate::nodes::Nodes;
+use crate::stores::Making;
 use std::marker::PhantomData;
 
 pub mod making;
@@ -26,13 +27,36 @@ impl NodeRow {
     };
 }
 
-// Node 0 is no and node 1 is yes; node 2 + i was made by row i.
+impl From<Making> for NodeRow {
+    ghost use Rattle.std.specs.Prelude.{◌≡◌};
+    ghost use Rattle.formula.specs.Tables.{row_of};
+
+    ghost from_gives = { λ call row. row ≡ row_of call };
+
+    fn from(call: Making) -> NodeRow {
+        let (tag, operation, first, second) = match call {
+            Making::Literal(n) => (1, 0, u32::from(n), 0),
+            Making::Name(f) => (2, 0, u32::from(f.0), 0),
+            Making::Operation(op, p, q) => (3, u32::from(op), p.0, q.0),
+            Making::Same(p, q) => (4, 0, p.0, q.0),
+            Making::Not(p) => (5, 0, p.0, 0),
+            Making::And(p, q) => (6, 0, p.0, q.0),
+            Making::Or(p, q) => (7, 0, p.0, q.0),
+        };
+        NodeRow {
+            tag,
+            operation,
+            first,
+            second,
+        }
+    }
+}
+
+// Node 0 is no and node 1 is yes; a node from 2 on has the row of the call that made it.
 #[derive(Drop)]
 pub struct TableStore<K> {
-    rows: Vec<NodeRow>,
-    count: u32,
+    nodes: Nodes<NodeRow>,
     width: u32,
     kind: PhantomData<K>,
-    ghost two: { 2 ≤ count },
-    ghost placed: { count ≤ capacity_of (vec_len rows) },
+    ghost all: { nodes.front ≡ 0 },
 }

@@ -3,7 +3,9 @@ use Rattle.std.proofs.Common.{◌≡◌, ℕ, max, List, [], ◌∷◌, ◌++◌
 use Rattle.kinds.specs.Kind.{KindOf}
 use Rattle.kinds.specs.declared.numbered.Node.{Node}
 use Rattle.kinds.specs.declared.refusals.Refusal.{Refusal}
-use Rattle.formula.specs.Store.{Making, make_and, Meaning, refused_by, DoneOrRefused}
+use Rattle.formula.specs.declared.stores.Making.{Making}
+use Rattle.formula.specs.declared.stores.Making.TheVariants as making
+use Rattle.formula.specs.Store.{Meaning, refused_by, DoneOrRefused}
 use Rattle.register.specs.declared.entries.Entry.{Entry}
 use Rattle.register.specs.declared.entries.Answer.TheVariants.{Joined, Marked, Shown}
 use Rattle.register.specs.Held.{Held, entry, entry_at, struck_out, entry_refusal, unless_refused, join_tests}
@@ -34,9 +36,9 @@ module _ {V : Type 0} {S : Type 0} (K : KindOf V) (M : Meaning V S) (steps : S �
     module _ (pair : Entry × Entry)
         (found : unless_refused {A = Entry × Entry} (join_tests M h.store h.entries j k None) (entry_at h.entries j, entry_at h.entries k) ≡ Ok pair)
         (answer : Result Node Refusal) (t : S)
-        (asked : DoneOrRefused (refused_by K M h.store (make_and pair.0.node pair.1.node)) (steps h.store (make_and pair.0.node pair.1.node)) h.store answer t) where
+        (asked : DoneOrRefused (refused_by K M h.store (making.And pair.0.node pair.1.node)) (steps h.store (making.And pair.0.node pair.1.node)) h.store answer t) where
       abbrev both : Making
-      both = make_and (entry_at h.entries j).node (entry_at h.entries k).node
+      both = making.And (entry_at h.entries j).node (entry_at h.entries k).node
 
       free : join_tests M h.store h.entries j k None ≡ None
       free = (unrefused _ _ pair found).0
@@ -47,7 +49,7 @@ module _ {V : Type 0} {S : Type 0} (K : KindOf V) (M : Meaning V S) (steps : S �
       asked_of : (r : Result Node Refusal) → answer ≡ r → DoneOrRefused (refused_by K M h.store both) (steps h.store both) h.store r t
       asked_of r p =
           subst (λ z. DoneOrRefused (refused_by K M h.store both) (steps h.store both) h.store z t) p
-          (subst (λ (x : Entry × Entry). DoneOrRefused (refused_by K M h.store (make_and x.0.node x.1.node)) (steps h.store (make_and x.0.node x.1.node)) h.store answer t)
+          (subst (λ (x : Entry × Entry). DoneOrRefused (refused_by K M h.store (making.And x.0.node x.1.node)) (steps h.store (making.And x.0.node x.1.node)) h.store answer t)
           (sym read) asked)
 
       pub not_joined_last : (e : Refusal) → answer ≡ Err e → Answered K M steps h (join_request j k) (Err e) (with_both t h.entries)

@@ -12,7 +12,8 @@ use Rattle.routine.specs.Decoding.{decode}
 use Rattle.passive.specs.Passive.{passive_form}
 use Rattle.passify.specs.declared.calls.FormMeasures.{FormMeasures}
 use Rattle.passify.specs.Calls.{most_names, form_measures}
-use Rattle.formula.specs.Store.{Making, Meaning}
+use Rattle.formula.specs.declared.stores.Making.{Making}
+use Rattle.formula.specs.Store.{Meaning}
 use Rattle.conditions.specs.Calls.{condition_answer}
 use Rattle.register.specs.Held.{Held}
 use Rattle.register.specs.Answers.{room_for_one, file_verdict}

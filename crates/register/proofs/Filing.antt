@@ -13,7 +13,8 @@ use Rattle.passive.specs.declared.rows.PassiveTermRow.{PassiveTermRow}
 use Rattle.passive.specs.declared.rows.PassiveRow.{PassiveRow}
 use Rattle.passify.specs.declared.calls.FormMeasures.{FormMeasures}
 use Rattle.passify.specs.Calls.{form_measures}
-use Rattle.formula.specs.Store.{Making, Meaning}
+use Rattle.formula.specs.declared.stores.Making.{Making}
+use Rattle.formula.specs.Store.{Meaning}
 use Rattle.conditions.specs.declared.calls.Condition.{Condition}
 use Rattle.conditions.specs.Calls.{condition_answer, MakesCondition}
 use Rattle.register.specs.declared.entries.Entry.{Entry}

@@ -15,7 +15,9 @@ use Rattle.passive.specs.Passive.{passive_form}
 use Rattle.passive.specs.Outcomes.{Assignment, outcomes}
 use Rattle.passive.specs.declared.rows.PassiveRow.{PassiveRow}
 use Rattle.passify.proofs.Accepted.{proper, bounds}
-use Rattle.formula.specs.Store.{Making, make_and, Meaning, Lawful, yes_or_no, Grown, Makes, node_no}
+use Rattle.formula.specs.declared.stores.Making.{Making}
+use Rattle.formula.specs.declared.stores.Making.TheVariants as making
+use Rattle.formula.specs.Store.{Meaning, Lawful, yes_or_no, Grown, Makes, node_no}
 use Rattle.conditions.specs.Valued.{ConditionValued}
 use Rattle.conditions.proofs.FormLaws.{condition_valued}
 use Rattle.register.specs.declared.entries.Entry.{Entry}
@@ -103,10 +105,10 @@ module _ {V : Type 0} {S : Type 0} (K : KindOf V) (M : Meaning V S) (steps : S �
         (subst (λ (d : Result Command Refusal). Good K M before.v after.store new_entry (filed_origin d)) (sym is) good_filed))
 
   -- the entry of two that were joined
-  good_joined : (v : ℕ) (s t : S) (d e : Entry) (p q : Origin) (n : Node) (names risen : ℕ) → steps s (make_and d.node e.node) n t
+  good_joined : (v : ℕ) (s t : S) (d e : Entry) (p q : Origin) (n : Node) (names risen : ℕ) → steps s (making.And d.node e.node) n t
       → Good K M v s d p → Good K M v s e q → Good K M v t (entry n names risen) (joined_of p q)
   good_joined v s t d e p q n names risen made x y =
-      let m = sound s (make_and d.node e.node) n t made in
+      let m = sound s (making.And d.node e.node) n t made in
       let g = m.grown in
       record {
         used = m.used;

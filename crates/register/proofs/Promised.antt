@@ -7,7 +7,9 @@ use Rattle.kinds.specs.declared.numbered.Node.{Node}
 use Rattle.kinds.specs.declared.refusals.Refusal.TheVariants.{Places, NotInUse}
 use Rattle.passive.specs.declared.rows.PassiveTermRow.{PassiveTermRow}
 use Rattle.passive.specs.declared.rows.PassiveRow.{PassiveRow}
-use Rattle.formula.specs.Store.{Making, make_and, Meaning, refused_by, free_place, Lawful, Makes, node_no}
+use Rattle.formula.specs.declared.stores.Making.{Making}
+use Rattle.formula.specs.declared.stores.Making.TheVariants as making
+use Rattle.formula.specs.Store.{Meaning, refused_by, free_place, Lawful, Makes, node_no}
 use Rattle.register.specs.declared.entries.Entry.{Entry}
 use Rattle.register.specs.Held.{Held, most_entries, entry, entry_at, there, standing}
 use Rattle.register.specs.Histories.{Exchange, new_held, History, Origin, nowhere, routines, origin_at, origins}
@@ -46,7 +48,7 @@ module _ {V : Type 0} {S : Type 0} (K : KindOf V) (M : Meaning V S) (steps : S �
 
   -- so that where a place is free, the store does not refuse the join of two entries
   pub never_unused : (j k : ℕ) → there h.entries j ≡ true → there h.entries k ≡ true → M.count h.store < M.capacity h.store
-      → refused_by K M h.store (make_and (entry_at h.entries j).node (entry_at h.entries k).node) ≡ None
+      → refused_by K M h.store (making.And (entry_at h.entries j).node (entry_at h.entries k).node) ≡ None
   never_unused j k lj lk free =
       cond-true _ (free_place M h.store) (Some NotInUse) (and_from _ _ (entry_used j lj) (entry_used k lk))
       ∙ cond-true _ None (Some Places) (lt-ltb (M.count h.store) (M.capacity h.store) free)
@@ -61,7 +63,7 @@ promise_kept K M steps lawful sound v s E T xs h past = record {
       (good_at K M steps lawful sound v s E T xs h past i l);
   joins_tested = λ j k. tests_silent (there h.entries j && there h.entries k) (standing h.entries j && standing h.entries k)
       (ltb (M.count h.store) (M.capacity h.store)) (ltb (length h.entries) most_entries)
-      (refused_by K M h.store (make_and (entry_at h.entries j).node (entry_at h.entries k).node))
+      (refused_by K M h.store (making.And (entry_at h.entries j).node (entry_at h.entries k).node))
       (λ both free. let ends = and_parts (there h.entries j) (there h.entries k) both in
       never_unused K M steps lawful sound v s E T xs h past j k ends.0 ends.1 (ltb-true (M.count h.store) (M.capacity h.store) free));
 }

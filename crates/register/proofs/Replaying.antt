@@ -4,7 +4,8 @@ use Rattle.std.proofs.lemmas.List.{get_or-take, length-take, take_more, take_mor
 use Rattle.kinds.specs.Kind.{KindOf}
 use Rattle.kinds.specs.declared.numbered.Node.{Node}
 use Rattle.kinds.specs.declared.refusals.Refusal.{Refusal}
-use Rattle.formula.specs.Store.{Making, Meaning}
+use Rattle.formula.specs.declared.stores.Making.{Making}
+use Rattle.formula.specs.Store.{Meaning}
 use Rattle.register.specs.declared.entries.Request.{Request as Asked}
 use Rattle.register.specs.declared.entries.Answer.{Answer}
 use Rattle.register.specs.Held.{Held}

@@ -13,7 +13,9 @@ use Rattle.passive.specs.Layout.{rows, terms, term_rows, put}
 use Rattle.passive.specs.declared.rows.PassiveRow.{PassiveRow}
 use Rattle.passify.specs.declared.calls.FormMeasures.{FormMeasures}
 use Rattle.passify.specs.Calls.{form_measures}
-use Rattle.formula.specs.Store.{Making, make_and, Meaning}
+use Rattle.formula.specs.declared.stores.Making.{Making}
+use Rattle.formula.specs.declared.stores.Making.TheVariants as making
+use Rattle.formula.specs.Store.{Meaning}
 use Rattle.conditions.specs.Calls.{condition_answer}
 use Rattle.conditions.specs.Made.{ConditionMade}
 use Rattle.register.specs.declared.entries.Entry.{Entry}
@@ -64,7 +66,7 @@ module _ {V : Type 0} {S : Type 0} (K : KindOf V) (M : Meaning V S) (steps : S �
 
   -- two entries are joined: the node of both is made, with the larger names
   pub record Joins (before : Held S) (j k : ℕ) (n : Node) (after : Held S) : Type 0 where
-    pub made : steps before.store (make_and (entry_at before.entries j).node (entry_at before.entries k).node) n after.store
+    pub made : steps before.store (making.And (entry_at before.entries j).node (entry_at before.entries k).node) n after.store
     pub same_v : after.v ≡ before.v
     pub entries :
         after.entries

@@ -6,7 +6,8 @@ use Rattle.kinds.specs.declared.refusals.Refusal.{Refusal}
 use Rattle.kinds.specs.declared.refusals.Refusal.TheVariants.{Places, Entries, NotInUse, Struck}
 use Rattle.passive.specs.declared.rows.PassiveTermRow.{PassiveTermRow}
 use Rattle.passive.specs.declared.rows.PassiveRow.{PassiveRow}
-use Rattle.formula.specs.Store.{make_and, Meaning, unless, refused_by, node_no}
+use Rattle.formula.specs.declared.stores.Making.TheVariants as making
+use Rattle.formula.specs.Store.{Meaning, unless, refused_by, node_no}
 use Rattle.register.specs.declared.entries.Entry.{Entry}
 
 abbrev pub most_entries : ℕ
@@ -60,4 +61,4 @@ module _ {V : Type 0} {S : Type 0} (M : Meaning V S) where
 abbrev pub join_refusal : {V : Type 0} {S : Type 0} → KindOf V → Meaning V S → Held S → ℕ → ℕ → Option Refusal
 join_refusal K M h j k =
     let es = h.entries in
-    join_tests M h.store es j k (refused_by K M h.store (make_and (entry_at es j).node (entry_at es k).node))
+    join_tests M h.store es j k (refused_by K M h.store (making.And (entry_at es j).node (entry_at es k).node))

@@ -7,7 +7,8 @@ use Rattle.routine.specs.Commands.{Command}
 use Rattle.routine.specs.Decoding.{decode}
 use Rattle.passive.specs.declared.rows.PassiveTermRow.{PassiveTermRow}
 use Rattle.passive.specs.declared.rows.PassiveRow.{PassiveRow}
-use Rattle.formula.specs.Store.{Making, Meaning}
+use Rattle.formula.specs.declared.stores.Making.{Making}
+use Rattle.formula.specs.Store.{Meaning}
 use Rattle.register.specs.declared.entries.Answer.{Answer}
 use Rattle.register.specs.declared.entries.Answer.TheVariants.{Filed, Joined, Marked, Shown}
 use Rattle.register.specs.Held.{Held}

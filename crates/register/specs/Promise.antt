@@ -8,7 +8,8 @@ use Rattle.passive.specs.Outcomes.{Assignment}
 use Rattle.passive.specs.Agreement.{Begins}
 use Rattle.passive.specs.declared.rows.PassiveTermRow.{PassiveTermRow}
 use Rattle.passive.specs.declared.rows.PassiveRow.{PassiveRow}
-use Rattle.formula.specs.Store.{Making, Meaning}
+use Rattle.formula.specs.declared.stores.Making.{Making}
+use Rattle.formula.specs.Store.{Meaning}
 use Rattle.register.specs.declared.entries.Entry.{Entry}
 use Rattle.register.specs.Held.{Held, entry_at, join_tests, join_refusal}
 use Rattle.register.specs.Histories.{Exchange, new_held, History, Origin, filed_for, joined_of, nowhere, routines, origin_at, origins}

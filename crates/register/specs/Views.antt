@@ -5,7 +5,8 @@ use Rattle.kinds.specs.declared.numbered.Node.{Node}
 use Rattle.kinds.specs.declared.refusals.Refusal.{Refusal}
 use Rattle.passive.specs.declared.rows.PassiveTermRow.{PassiveTermRow}
 use Rattle.passive.specs.declared.rows.PassiveRow.{PassiveRow}
-use Rattle.formula.specs.Store.{Making, Meaning}
+use Rattle.formula.specs.declared.stores.Making.{Making}
+use Rattle.formula.specs.Store.{Meaning}
 use Rattle.register.specs.declared.entries.Answer.{Answer}
 use Rattle.register.specs.declared.entries.Answer.TheVariants.{Marked}
 use Rattle.register.specs.declared.registers.Register.{Register}

@@ -6,7 +6,8 @@ use Rattle.kinds.specs.declared.refusals.Refusal.{Refusal}
 use Rattle.routine.specs.Commands.{Command}
 use Rattle.passive.specs.declared.rows.PassiveTermRow.{PassiveTermRow}
 use Rattle.passive.specs.declared.rows.PassiveRow.{PassiveRow}
-use Rattle.formula.specs.Store.{Making, Meaning}
+use Rattle.formula.specs.declared.stores.Making.{Making}
+use Rattle.formula.specs.Store.{Meaning}
 use Rattle.conditions.specs.declared.calls.Condition.{Condition}
 use Rattle.conditions.specs.Calls.{MakesCondition}
 

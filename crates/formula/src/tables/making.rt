@@ -1,10 +1,12 @@
 // The calls of the table store.
 ghost use Rattle.std.specs.Prelude.{◌≡◌};
-ghost use Rattle.formula.specs.Store.{DoneOrRefused, free_place, Fixing};
-ghost use Rattle.formula.specs.Tables.{table_meaning, table_steps, node_row, RowPlaced, combine_refusal, row_asked, RowsStand, SameTable};
+ghost use Rattle.formula.specs.Store.{DoneOrRefused, Fixing};
+ghost use Rattle.formula.specs.Nodes.{no_place};
+ghost use Rattle.formula.specs.Tables.{table_meaning, table_steps, row_of, combine_refusal, row_asked, RowsStand, SameTable};
 ghost use Rattle.formula.specs.TableLaws.{table_lawful, table_sound};
 
-use crate::stores::{Store, capacity_of};
+use crate::nodes::Nodes;
+use crate::stores::{Making, Store};
 use crate::tables::{NodeRow, TableStore};
 use kinds::kind::Kind;
 use kinds::numbered::{Name, Node};
@@ -14,14 +16,13 @@ use std::marker::PhantomData;
 impl<K> TableStore<K> {
     // A store of no nodes but 0 and 1, with a place for each row.
     pub fn new(rows: Vec<NodeRow>, width: u32) -> TableStore<K>
-        ensures count { result.count ≡ 2 }
+        ensures count { result.nodes.count ≡ 2 }
         ensures width { result.width ≡ width }
-        ensures rows { result.rows ≡ rows }
+        ensures rows { result.nodes.items ≡ rows }
         ensures fixing { Fixing (SameTable {V = K}) table_steps }
     {
         TableStore {
-            rows,
-            count: 2,
+            nodes: Nodes::new(rows, 0),
             width,
             kind: PhantomData,
         }
@@ -32,40 +33,27 @@ impl<K> TableStore<K> {
         ensures asked { result ≡ row_asked self.now node }
         ensures made { RowsStand K }
     {
-        if node.0 < 2 || node.0 >= self.count {
+        if node.0 < 2 || node.0 >= self.nodes.count {
             return Err(Refusal::NotInUse);
         }
-        Ok(self.rows[(node.0 - 2) as usize])
-    }
-}
-
-impl<K: Kind> TableStore<K> {
-    // Gives the next node this row.
-    fn place(&mut self, tag: u32, operation: u32, first: u32, second: u32) -> Result<Node, Refusal>
-        ensures { DoneOrRefused (free_place (table_meaning K.kind) self.old) (RowPlaced self.old (node_row tag operation first second)) self.old result self.new }
-    {
-        if self.count >= self.capacity() {
-            return Err(Refusal::Places);
-        }
-        let node = Node(self.count);
-        self.rows[(node.0 - 2) as usize] = NodeRow {
-            tag,
-            operation,
-            first,
-            second,
-        };
-        self.count += 1;
-        Ok(node)
+        Ok(self.nodes.item(node))
     }
 
-    // Gives the next node a row of two nodes.
-    fn combine(&mut self, tag: u32, operation: u32, p: Node, q: Node) -> Result<Node, Refusal>
-        ensures { DoneOrRefused (combine_refusal K.kind self.old p q) (RowPlaced self.old (node_row tag operation p.0 q.0)) self.old result self.new }
+    // Gives the next node the row of a call.
+    fn place(&mut self, call: Making) -> Result<Node, Refusal>
+        ensures { DoneOrRefused (no_place self.old.nodes) (table_steps self.old call) self.old result self.new }
     {
-        if p.0 >= self.count || q.0 >= self.count {
+        self.nodes.add(NodeRow::from(call))
+    }
+
+    // Gives the next node the row of a call that is of these two nodes.
+    fn combine(&mut self, call: Making, p: Node, q: Node) -> Result<Node, Refusal>
+        ensures { DoneOrRefused (combine_refusal self.old p q) (table_steps self.old call) self.old result self.new }
+    {
+        if p.0 >= self.nodes.count || q.0 >= self.nodes.count {
             return Err(Refusal::NotInUse);
         }
-        self.place(tag, operation, p.0, q.0)
+        self.place(call)
     }
 }
 
@@ -76,12 +64,12 @@ impl<K: Kind> Store for TableStore<K> {
 
     ghost steps = { table_steps };
 
-    ghost lawful = { λ s. table_lawful K.kind s };
+    ghost lawful = { table_lawful K.kind };
 
-    ghost sound = { λ s c n t step. table_sound K.kind s c n t step };
+    ghost sound = { table_sound K.kind };
 
     fn capacity(&self) -> u32 {
-        capacity_of(self.rows.len())
+        self.nodes.capacity()
     }
 
     fn width(&self) -> u32 {
@@ -89,42 +77,41 @@ impl<K: Kind> Store for TableStore<K> {
     }
 
     fn count(&self) -> u32 {
-        self.count
+        self.nodes.count
     }
 
     fn literal(&mut self, n: u16) -> Result<Node, Refusal> {
-        self.place(1, 0, u32::from(n), 0)
+        self.place(Making::Literal(n))
     }
 
     fn name(&mut self, f: Name) -> Result<Node, Refusal> {
-        let name = u32::from(f.0);
-        if name >= self.width {
+        if u32::from(f.0) >= self.width {
             return Err(Refusal::Names);
         }
-        self.place(2, 0, name, 0)
+        self.place(Making::Name(f))
     }
 
     fn operation(&mut self, op: u16, p: Node, q: Node) -> Result<Node, Refusal> {
         if op >= K::ops() {
             return Err(Refusal::Term);
         }
-        self.combine(3, u32::from(op), p, q)
+        self.combine(Making::Operation(op, p, q), p, q)
     }
 
     fn same(&mut self, p: Node, q: Node) -> Result<Node, Refusal> {
-        self.combine(4, 0, p, q)
+        self.combine(Making::Same(p, q), p, q)
     }
 
-    // The second operand is 0, which is a node in use.
+    // The second node is 0, which is in use.
     fn not(&mut self, p: Node) -> Result<Node, Refusal> {
-        self.combine(5, 0, p, Node(0))
+        self.combine(Making::Not(p), p, Node(0))
     }
 
     fn and(&mut self, p: Node, q: Node) -> Result<Node, Refusal> {
-        self.combine(6, 0, p, q)
+        self.combine(Making::And(p, q), p, q)
     }
 
     fn or(&mut self, p: Node, q: Node) -> Result<Node, Refusal> {
-        self.combine(7, 0, p, q)
+        self.combine(Making::Or(p, q), p, q)
     }
 }

@@ -1,5 +1,5 @@
 use Rattle.std.proofs.Common.{sym, subst, arith}
-use Rattle.formula.specs.Store.{make_not}
+use Rattle.formula.specs.declared.stores.Making.TheVariants as making
 use Rattle.conditions.specs.Made.{Ends}
 use Rattle.conditions.specs.Valued.{EndsUsed}
 use Rattle.conditions.proofs.Frames.{room_later, not_accepted}
@@ -22,5 +22,5 @@ pub returns : goal.returns
 returns g c = record {
   between = c.form_nodes.new.store;
   rows_made = c.form_nodes.ensures.made;
-  last_made = subst (λ (e : Ends). g.S.Store.steps c.form_nodes.new.store (make_not e.W) c.make.result c.make.new.store) c.form_nodes.ensures.last c.make.ensures;
+  last_made = subst (λ (e : Ends). g.S.Store.steps c.form_nodes.new.store (making.Not e.W) c.make.result c.make.new.store) c.form_nodes.ensures.last c.make.ensures;
 }
