@@ -18,7 +18,8 @@ find_lines 1 'kinds told by their numbers' \
     '(match|if) [a-z_.]*\btag\b|\btag (==|<|>|<=|>=|!=)|match row\.tag\(\)|match (operation|op) \{'
 find_lines 1 'kinds passed as numbers' '\b(joint|tag): u32' 'pub tag'
 find_lines 1 'kinds and refusals written as numbers' \
-    '(joint_row|term_row|place|combine|joined|passive|row|item)\([0-9]|\btag: [0-9]|=> \([0-9]|::[A-Za-z]+(\(Joint::[A-Za-z]+\))? => [0-9]+,|^(pub )?const [A-Z]+: u(16|32) = [0-9];'
+    '(joint_row|term_row|place|combine|joined|passive|row|item)\([0-9]|\btag: [0-9]|=> \([0-9]|::[A-Za-z]+(\(Joint::[A-Za-z]+\))? => [0-9]+,|^(pub )?const [A-Z]+: u(16|32) = [0-9];' \
+    'crates/edges/|RUNS|UNITS'
 find_lines 2 'macros that write rows, and functions and constants beside them' \
     'macro_rules!|fn (row|item|passive|joined|let_row|literal|name|chains|sum_of)\(|const (UNUSED|BLANK_ROW|BLANK_TERM|MOST_[A-Z]+|DEEPEST|SKIP|SEQUENCE|CHOICE|ASSERT|ASSUME|ASSIGN)\b'
 find_lines 2 'two functions or impls that differ in a type or a number' \

@@ -102,9 +102,7 @@ impl From<PassiveTag> for u32 {
             PassiveTag::Assume => 2,
             PassiveTag::Skip => 4,
             PassiveTag::Raise => 5,
-            PassiveTag::Join(Joint::Sequence) => 6,
-            PassiveTag::Join(Joint::Choice) => 7,
-            PassiveTag::Join(Joint::Catch) => 8,
+            PassiveTag::Join(joint) => u32::from(joint),
             PassiveTag::Let => 9,
             PassiveTag::Stop => 10,
         }
