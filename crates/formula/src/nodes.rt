@@ -19,6 +19,7 @@ pub struct Nodes<T> {
 
 impl<T> Nodes<T> {
     ghost use Rattle.std.specs.Prelude.{◌≡◌, min};
+    ghost use Rattle.formula.specs.Store.{below};
     ghost use Rattle.formula.specs.Nodes.{place_of, room_of};
 
     // No nodes but 0 and 1: each item after the front ones gives a place.
@@ -40,6 +41,13 @@ impl<T> Nodes<T> {
         ensures { result ≡ room_of self.now }
     {
         capacity_of(self.items.len() - self.front as usize)
+    }
+
+    // Whether a node is in use.
+    pub fn in_use(&self, node: Node) -> bool
+        ensures { result ≡ below self.now.count node }
+    {
+        node.0 < self.count
     }
 
     // Where the item of a node from 2 on stands.

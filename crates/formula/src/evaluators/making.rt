@@ -38,7 +38,7 @@ impl<K: Kind> Evaluator<K> {
         ensures made { ValuesStand K.kind }
         ensures fixing { Fixing SameValues (evaluator_steps K.kind) }
     {
-        if node.0 >= self.nodes.count {
+        if !self.nodes.in_use(node) {
             return Err(Refusal::NotInUse);
         }
         match node.0 {

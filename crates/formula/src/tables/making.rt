@@ -33,7 +33,7 @@ impl<K> TableStore<K> {
         ensures asked { result ≡ row_asked self.now node }
         ensures made { RowsStand K }
     {
-        if node.0 < 2 || node.0 >= self.nodes.count {
+        if node.0 < 2 || !self.nodes.in_use(node) {
             return Err(Refusal::NotInUse);
         }
         Ok(self.nodes.item(node))
@@ -50,7 +50,7 @@ impl<K> TableStore<K> {
     fn combine(&mut self, call: Making, p: Node, q: Node) -> Result<Node, Refusal>
         ensures { DoneOrRefused (combine_refusal self.old p q) (table_steps self.old call) self.old result self.new }
     {
-        if p.0 >= self.nodes.count || q.0 >= self.nodes.count {
+        if !self.nodes.in_use(p) || !self.nodes.in_use(q) {
             return Err(Refusal::NotInUse);
         }
         self.place(call)

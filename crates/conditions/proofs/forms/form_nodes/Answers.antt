@@ -1,4 +1,4 @@
-use Rattle.std.proofs.Common.{ap, ◌∙◌, arith}
+use Rattle.std.proofs.Common.{ap, ◌∙◌, arith, rules}
 use Rattle.std.proofs.lemmas.List.{take_all}
 use Rattle.conditions.specs.Made.{last_ends}
 use Rattle.conditions.specs.Asks.{ends_of}
@@ -12,7 +12,9 @@ row_nodes-last-requires g c =
     asked g.S.Value.Kind.kind g.S.Store.meaning g.S.Store.steps g.met.S.Store.lawful g.met.S.Store.sound c.args.terms.now c.loop-i.rows c.loop-i.i
     (omega (arith, c.loop-i-test.true, c.loop-i.auto.rows)) c.loop-i.store c.loop-i.store (ends_of c.loop-i.last) (ends_of c.loop-i.last)
     inv.1 inv.2 inv.3 inv.4 (ends_of c.nodes_at-left.result) c.nodes_at-left.ensures in
-    record { workable = h.workable; left = h.left; right = h.right; room = h.room }
+    let left_used = h.left in
+    let right_used = h.right in
+    record { workable = h.workable; left = search rules; right = search rules; room = h.room }
 
 pub loop-i-preserved : goal.loop-i-preserved
 loop-i-preserved g c =

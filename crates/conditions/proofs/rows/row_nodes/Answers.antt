@@ -1,4 +1,4 @@
-use Rattle.std.proofs.Common.{arith}
+use Rattle.std.proofs.Common.{arith, rules}
 use Rattle.conditions.specs.Reading.{items}
 use Rattle.conditions.specs.Made.{assert_made, assume_made, let_made, skip_made, raise_made, stop_made}
 use Rattle.conditions.proofs.Frames.{grown_then, room_later, not_accepted, same_accepted}
@@ -29,8 +29,9 @@ make-requires g c =
     let term = c.term_node-value.ensures in
     let grown = term_grown K M steps sound term in
     let room = room_as c.args.row (items c.args.terms.now) c.try_from.ensures c.unwrap_or.ensures c.in-Let.is M c.args.store.now c.requires.room in
-    same_accepted K M c.term_node-value.new.store c.make-name.result c.term_node-value.result
-    (grown.still_used _ named.used) (term_used K M steps sound term tt)
+    let name_used = grown.still_used _ named.used in
+    let value_used = term_used K M steps sound term tt in
+    same_accepted K M c.term_node-value.new.store _ _ (search rules) (search rules)
     (room_later M 1 _ (grown_then M named.grown grown) (omega arith) room)
 
 pub returns-in-Assert : goal.returns-in-Assert
