@@ -27,39 +27,39 @@ use Rattle.register.specs.Answers.{file_request, rise, room_for_one, file_verdic
 abbrev pub filing_of : ℕ → Condition → Filing
 filing_of number k = record { entry = number; node = k.node; names = k.names; rows = k.rows; terms = k.terms; rise = k.rise }
 
-module _ {V : Type 0} {S : Type 0} (K : KindOf V) (M : Meaning V S) (steps : S → Making → Node → S → Type 0)
-    (h : Held S) (cs : List CommandRow) (ts : List TermRow) where
-  abbrev pub asked : Result FormMeasures Refusal
-  asked = condition_answer M h.store (length h.rows) (length h.terms) h.v (decode h.v K.ops cs ts)
+module _ {V : Type 0} {S : Type 0} (K : KindOf V) (M : Meaning V S) where
+  -- what making the condition of the rows answers
+  abbrev pub asked : Held S → List CommandRow → List TermRow → Result FormMeasures Refusal
+  asked h cs ts = condition_answer M h.store (length h.rows) (length h.terms) h.v (decode h.v K.ops cs ts)
 
-  pub not_filed : (e : Refusal) → asked ≡ Err e → Answered K M steps h (file_request cs ts) (Err e) h
-  not_filed e p = file_refused (ap (room_for_one (length h.entries)) p)
+module _ {V : Type 0} {S : Type 0} {K : KindOf V} {M : Meaning V S} {steps : S → Making → Node → S → Type 0} {h : Held S} {cs : List CommandRow}
+    {ts : List TermRow} where
+  pub not_filed : {e : Refusal} → asked K M h cs ts ≡ Err e → Answered K M steps h (file_request cs ts) (Err e) h
+  not_filed p = file_refused (ap (room_for_one (length h.entries)) p)
 
   -- the condition could not be made, and making it left everything as it was
-  pub not_made : (e : Refusal) (t : S) (E : List PassiveRow) (T : List PassiveTermRow)
+  pub not_made : {e : Refusal} {t : S} {E : List PassiveRow} {T : List PassiveTermRow}
       → MakesCondition K M steps h.v (decode h.v K.ops cs ts) h.store h.rows h.terms (Err e) t E T
       → Answered K M steps h (file_request cs ts) (Err e) (record { v = h.v; store = t; entries = h.entries; rows = E; terms = T })
-  not_made e t E T made = rw (made.1, made.2, made.3) (not_filed e made.0)
+  not_made made = rw (made.1, made.2, made.3) (not_filed made.0)
 
-  pub no_entry : (m : FormMeasures) → asked ≡ Ok m → most_entries ≤ length h.entries → Answered K M steps h (file_request cs ts) (Err Entries) h
+  pub no_entry : (m : FormMeasures) → asked K M h cs ts ≡ Ok m → most_entries ≤ length h.entries → Answered K M steps h (file_request cs ts) (Err Entries) h
   no_entry m p full =
       file_refused (ap (room_for_one (length h.entries)) p ∙ ap (λ b. cond b (Ok m) (Err Entries)) (le-ltb (length h.entries) most_entries full))
 
-  module _ (k : Condition) (t : S) (E : List PassiveRow) (T : List PassiveTermRow) (es : List Entry) where
-    abbrev after : Held S
-    after = record { v = h.v; store = t; entries = es; rows = E; terms = T }
-
-    pub filed_by :
-        MakesCondition K M steps h.v (decode h.v K.ops cs ts) h.store h.rows h.terms (Ok k) t E T → length h.entries < most_entries
-        → es ≡ h.entries ++ (entry k.node k.names k.rise ∷ []) → Answered K M steps h (file_request cs ts) (Ok (Filed (filing_of (length h.entries) k))) after
-    filed_by made few more =
-        let c = made.0 in
-        let stands = made.3 in
-        let m = form_measures h.v c in
-        let verdict : file_verdict K M steps h cs ts ≡ Ok m =
-        ap (room_for_one (length h.entries)) made.2 ∙ ap (λ b. cond b (Ok m) (Err Entries)) (lt-ltb (length h.entries) most_entries few) in
-        let entries : es ≡ h.entries ++ (entry k.node (passive_form h.v c).next (rise K M steps h.store t) ∷ []) =
-        more ∙ rw (stands.names, stands.rise) refl in
-        rw (stands.names, stands.rows, stands.terms, stands.rise)
-        (filed {before = h} {after = after} {cs = cs} {ts = ts} {c = c} {filled = stands.form} {n = k.node} made.1 verdict
-        (record { made = stands.made; same_v = refl; entries = entries; rows_in = stands.rows_in; terms_in = stands.terms_in }))
+  pub filed_by :
+      {k : Condition} {t : S} {E : List PassiveRow} {T : List PassiveTermRow} {es : List Entry}
+      → MakesCondition K M steps h.v (decode h.v K.ops cs ts) h.store h.rows h.terms (Ok k) t E T → length h.entries < most_entries
+      → es ≡ h.entries ++ (entry k.node k.names k.rise ∷ [])
+      → Answered K M steps h (file_request cs ts) (Ok (Filed (filing_of (length h.entries) k))) (record { v = h.v; store = t; entries = es; rows = E; terms = T })
+  filed_by {k} {t} {E} {T} {es} made few more =
+      let c = made.0 in
+      let stands = made.3 in
+      let m = form_measures h.v c in
+      let verdict : file_verdict K M steps h cs ts ≡ Ok m =
+      ap (room_for_one (length h.entries)) made.2 ∙ ap (λ b. cond b (Ok m) (Err Entries)) (lt-ltb (length h.entries) most_entries few) in
+      let entries : es ≡ h.entries ++ (entry k.node (passive_form h.v c).next (rise K M steps h.store t) ∷ []) =
+      more ∙ rw (stands.names, stands.rise) refl in
+      rw (stands.names, stands.rows, stands.terms, stands.rise)
+      (filed {before = h} {cs = cs} {ts = ts} {c = c} {filled = stands.form} {n = k.node} made.1 verdict
+      (record { made = stands.made; same_v = refl; entries = entries; rows_in = stands.rows_in; terms_in = stands.terms_in }))

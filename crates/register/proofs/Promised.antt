@@ -69,9 +69,9 @@ promise_kept K M steps lawful sound v s E T xs h past = record {
 }
 
 -- and so it is by further calls, after any history
-pub promise_goes_on : {V : Type 0} {S : Type 0} (K : KindOf V) (M : Meaning V S) (steps : S → Making → Node → S → Type 0)
+pub promise_goes_on : {V : Type 0} {S : Type 0} {K : KindOf V} {M : Meaning V S} {steps : S → Making → Node → S → Type 0}
     (lawful : (s : S) → Lawful K M s) (sound : (s : S) (c : Making) (n : Node) (t : S) → steps s c n t → Makes K M s c n t)
-    (before after : Held S) (xs : List Exchange) → History K M steps before xs after → GoesOn K M steps before xs after
-promise_goes_on K M steps lawful sound before after xs now v s E T past was =
-    let whole = history_then K M steps was now in
+    {before after : Held S} {xs : List Exchange} → History K M steps before xs after → GoesOn K M steps before xs after
+promise_goes_on {K = K} {M = M} {steps = steps} lawful sound {after = after} {xs = xs} now v s E T past was =
+    let whole = history_then was now in
     (whole, promise_kept K M steps lawful sound v s E T (past ++ xs) after whole)

@@ -37,7 +37,7 @@ exchanges_more i qs xs q x l k =
     ap₂ exchanges (take_more qs i q l) (take_more_set xs i x k)
     ∙ exchanges_push (take i qs) (take i xs) (get_or qs i q) x (length-take-le i qs (omega arith) ∙ sym (length-take-le i xs (omega arith)))
 
-module _ {V : Type 0} {S : Type 0} (K : KindOf V) (M : Meaning V S) (steps : S → Making → Node → S → Type 0) where
+module _ {V : Type 0} {S : Type 0} {K : KindOf V} {M : Meaning V S} {steps : S → Making → Node → S → Type 0} where
   pub history_then :
       {before between after : Held S} {xs ys : List Exchange} → History K M steps before xs between → History K M steps between ys after
       → History K M steps before (xs ++ ys) after

@@ -76,7 +76,7 @@ module _ {V : Type 0} {S : Type 0} (K : KindOf V) (M : Meaning V S) (steps : S �
 
   -- that one entry is marked, and nothing else changes
   abbrev pub with_struck : Held S → ℕ → Held S
-  with_struck h j = record { v = h.v; store = h.store; entries = slice_set h.entries j (struck_out (entry_at h.entries j)); rows = h.rows; terms = h.terms }
+  with_struck h j = record h { entries = slice_set h.entries j (struck_out (entry_at h.entries j)) }
 
   -- a call, its answer, and what is held before and after it; a refused call, and a read, changes nothing
   pub data Answered : Held S → Request → Result Answer Refusal → Held S → Type 0 where

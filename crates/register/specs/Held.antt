@@ -29,7 +29,7 @@ abbrev pub entry_at : List Entry → ℕ → Entry
 entry_at es j = slice_index_or es j (entry node_no 0 0)
 
 abbrev pub struck_out : Entry → Entry
-struck_out e = record { node = e.node; names = e.names; rise = e.rise; struck = true }
+struck_out e = record e { struck = true }
 
 -- the entry is there
 abbrev pub there : List Entry → ℕ → Bool

@@ -10,9 +10,9 @@ use Rattle.passive.specs.declared.rows.PassiveRow.{PassiveRow}
 use Rattle.formula.specs.declared.stores.Making.{Making}
 use Rattle.formula.specs.Store.{Meaning}
 use Rattle.register.specs.declared.entries.Answer.{Answer}
-use Rattle.register.specs.declared.entries.Answer.TheVariants.{Filed, Joined, Marked, Shown}
+use Rattle.register.specs.declared.entries.Answer.TheVariants.{Filed, Joined}
 use Rattle.register.specs.Held.{Held}
-use Rattle.register.specs.Answers.{Request, file_request, join_request, strike_request, read_request, Answered}
+use Rattle.register.specs.Answers.{Request, file_request, join_request, Answered}
 
 -- a request with its answer
 pub record Exchange : Type 0 where
@@ -52,17 +52,8 @@ filed_origin (Err e) = nowhere
 -- the origins of the entries after one more exchange: an accepted filing or join adds one
 abbrev pub origins_after : ℕ → ℕ → List Origin → Request → Result Answer Refusal → List Origin
 origins_after v ops os (file_request cs ts) (Ok (Filed f)) = os ++ (filed_origin (decode v ops cs ts) ∷ [])
-origins_after v ops os (file_request cs ts) (Ok (Joined x)) = os
-origins_after v ops os (file_request cs ts) (Ok Marked) = os
-origins_after v ops os (file_request cs ts) (Ok (Shown x)) = os
-origins_after v ops os (file_request cs ts) (Err e) = os
 origins_after v ops os (join_request j k) (Ok (Joined x)) = os ++ (joined_of (origin_at os j) (origin_at os k) ∷ [])
-origins_after v ops os (join_request j k) (Ok (Filed f)) = os
-origins_after v ops os (join_request j k) (Ok Marked) = os
-origins_after v ops os (join_request j k) (Ok (Shown x)) = os
-origins_after v ops os (join_request j k) (Err e) = os
-origins_after v ops os (strike_request j) x = os
-origins_after v ops os (read_request j) x = os
+origins_after v ops os _ _ = os
 
 abbrev pub origins_from : ℕ → ℕ → List Origin → List Exchange → List Origin
 origins_from v ops os [] = os

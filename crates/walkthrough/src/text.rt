@@ -3,7 +3,7 @@ ghost use Rattle.std.specs.Prelude.{◌≡◌};
 ghost use Rattle.walkthrough.specs.Shown.{operator_sign, label_from};
 
 use formula::tables::{NodeRow, TableStore};
-use kinds::numbered::{Name, Node, Variable};
+use kinds::numbered::{Node, Variable};
 use kinds::numbers::Number;
 use passive::rows::{PassiveRow, PassiveTag, PassiveTermRow};
 use register::entries::Request;
@@ -73,7 +73,7 @@ fn print_line(rt: &HostRuntime, depth: usize, line: &str) -> anyhow::Result<()> 
 
 // A command that has no parts.
 fn single_text(heap: Global, terms: &[TermRow], row: CommandRow) -> Result<String, AllocError> {
-    let term = term_of::<TermRow, Variable>(heap, terms, row.from, row.count)?;
+    let term = term_of(heap, terms, row.from, row.count)?;
     let target = Variable(row.target);
     match Tag::try_from(row.tag) {
         Ok(Tag::Assert) => format!(in heap; "assert {term}"),
@@ -131,7 +131,7 @@ fn passive_row_text(
     at: usize,
     row: PassiveRow,
 ) -> Result<String, AllocError> {
-    let term = term_of::<PassiveTermRow, Name>(heap, terms, row.from, row.count)?;
+    let term = term_of(heap, terms, row.from, row.count)?;
     let PassiveRow { f, left, .. } = row;
     let right = at.saturating_sub(1);
     match PassiveTag::try_from(row.tag) {

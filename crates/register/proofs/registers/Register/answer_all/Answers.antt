@@ -10,23 +10,14 @@ pub loop-i-init : goal.loop-i-init
 loop-i-init g c = record { history = no_more; rest = refl }
 
 pub loop-i-preserved : goal.loop-i-preserved
-loop-i-preserved g c =
-    let qs = c.args.requests.now in
-    record {
-      history = history_more g.S.Value.Kind.kind g.S.Store.meaning g.S.Store.steps c.min-count.result c.loop-i.i qs c.loop-i.answers _ c.perform.result
-          c.loop-i-test.true (omega (arith, length-take c.min-count.result qs)) c.loop-i.invariant.history c.perform.ensures;
-      rest = grind (arith, common_steps);
-    }
+loop-i-preserved g c = record {
+  history = history_more c.min-count.result c.loop-i.i c.args.requests.now c.loop-i.answers _ _ c.loop-i-test.true
+      (omega (arith, length-take c.min-count.result c.args.requests.now)) c.loop-i.invariant.history c.perform.ensures;
+  rest = grind (arith, common_steps);
+}
 
 pub returns : goal.returns
 returns g c =
-    let K = g.S.Value.Kind.kind in
-    let M = g.S.Store.meaning in
-    let steps = g.S.Store.steps in
-    let whole = history_whole K M steps c.min-count.result c.loop-i.i c.args.requests.now c.loop-i.answers c.loop-i-test.false (omega arith)
+    let whole = history_whole c.min-count.result c.loop-i.i c.args.requests.now c.loop-i.answers c.loop-i-test.false (omega arith)
     c.loop-i.invariant.history in
-    record {
-      history = whole;
-      promise = promise_goes_on K M steps g.met.S.Store.lawful g.met.S.Store.sound _ _ _ whole;
-      rest = c.loop-i.invariant.rest;
-    }
+    record { history = whole; promise = promise_goes_on g.met.S.Store.lawful g.met.S.Store.sound whole; rest = c.loop-i.invariant.rest }

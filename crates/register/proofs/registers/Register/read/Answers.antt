@@ -1,6 +1,5 @@
 use Rattle.std.proofs.Common.{sym, ◌∙◌}
 use Rattle.register.specs.Answers.{read_refused}
-use Rattle.register.specs.Views.{held}
 use Rattle.register.proofs.Tests.{refused_why, handed_on}
 use Rattle.register.proofs.Calls.{shown_by}
 use Rattle.register.proofs.registers.Register.read.Goals as goal
@@ -11,4 +10,4 @@ returns-in_err-node g c E T =
 
 pub returns : goal.returns
 returns g c E T =
-    shown_by g.S.Value.Kind.kind g.S.Store.meaning g.S.Store.steps (held c.args.self.now E T) c.args.j _ (sym c.entry.ensures ∙ c.in_ok-node.was)
+    shown_by (sym c.entry.ensures ∙ c.in_ok-node.was)

@@ -1,6 +1,5 @@
 use Rattle.std.proofs.Common.{sym, ◌∙◌}
 use Rattle.register.specs.Answers.{strike_refused}
-use Rattle.register.specs.Views.{held}
 use Rattle.register.proofs.Tests.{refused_why, handed_on}
 use Rattle.register.proofs.Calls.{struck_by}
 use Rattle.register.proofs.registers.Register.strike.Goals as goal
@@ -11,5 +10,5 @@ returns-in_err-entry g c E T =
 
 pub returns : goal.returns
 returns g c E T =
-    struck_by g.S.Value.Kind.kind g.S.Store.meaning g.S.Store.steps (held c.args.self.now E T) c.args.j _ _ (sym c.entry.ensures ∙ c.in_ok-entry.was)
+    struck_by (sym c.entry.ensures ∙ c.in_ok-entry.was)
     c.mark.ensures
