@@ -1,5 +1,5 @@
 // The check at its limits.
-ghost use Rattle.std.specs.Prelude.{◌≡◌, ◌^◌, ◌<◌, [], ◌∷◌, length};
+ghost use Rattle.std.specs.Prelude.{◌≡◌, ◌^◌, ◌<◌, [], ◌∷◌, cond, length, ◌==◌};
 ghost use Rattle.routine.specs.Decoding.{decode, verdict};
 ghost use Rattle.worked.specs.Tables.{assign_row};
 
@@ -10,7 +10,7 @@ use kinds::numbers::Number;
 use kinds::refusals::Refusal;
 use routine::checks::check;
 use routine::command_row;
-use routine::rows::TermRow;
+use routine::rows::{CommandRow, TermRow};
 use shapes::{SKIP, Shape, fill, fill_sum, skips};
 use std::test::Fail;
 
@@ -20,6 +20,25 @@ fn set_to(v: u32, terms: &[TermRow]) -> Result<(), Refusal>
 {
     let count = u32::try_from(terms.len()).unwrap_or(0);
     check::<Number>(v, &[command_row!(assign 0, term 0 + count)], terms)
+}
+
+// The row with 7 in each field that its tag does not read: it is a skip or joins two parts.
+fn with_sevens(skip_or_joint: CommandRow) -> CommandRow
+    ensures { result ≡ record { tag = skip_or_joint.tag; target = 7; from = 7; count = 7; left = cond (skip_or_joint.tag == 4) 7 skip_or_joint.left } }
+{
+    let CommandRow { tag, left, .. } = skip_or_joint;
+    let left = if tag == 4 { 7 } else { left };
+    row(tag, 7, 7, 7, left)
+}
+
+// Chains of `inner + 1` skips each, in one chain, with 7 in each field that no tag reads.
+fn fill_chains(rows: &mut [CommandRow], inner: u8)
+    ensures { length rows.new ≡ length rows.old }
+{
+    fill(rows, skips(Shape::Chains { inner }));
+    for row in rows.iter_mut() {
+        *row = with_sevens(*row);
+    }
 }
 
 #[test]
@@ -37,10 +56,11 @@ fn tables(rt: HostRuntime) -> Result<(), Fail> {
         Err(Refusal::Limits)
     );
     let mut rows = [SKIP; 1023];
-    fill(&mut rows, skips(Shape::Chains { inner: 15 }));
+    fill_chains(&mut rows, 15);
+    assert_eq!(rt; rows.len(), 1023);
     assert_eq!(rt; check::<Number>(0, &rows, &[]), Ok(()));
     let mut rows = [SKIP; 1024];
-    fill(&mut rows, skips(Shape::Chains { inner: 15 }));
+    fill_chains(&mut rows, 15);
     assert_eq!(rt; check::<Number>(0, &rows, &[]), Err(Refusal::Limits));
     Ok(())
 }
@@ -185,10 +205,10 @@ fn parts(rt: HostRuntime) {
         Err(Refusal::Parts)
     );
     let mut rows = [SKIP; 127];
-    fill(&mut rows, skips(Shape::Chains { inner: 63 }));
+    fill_chains(&mut rows, 63);
     assert_eq!(rt; check::<Number>(0, &rows, &[]), Ok(()));
     let mut rows = [SKIP; 129];
-    fill(&mut rows, skips(Shape::Chains { inner: 64 }));
+    fill_chains(&mut rows, 64);
     assert_eq!(rt; check::<Number>(0, &rows, &[]), Err(Refusal::Parts));
 }
 
