@@ -20,12 +20,13 @@ find_lines 1 'kinds passed as numbers' '\b(joint|tag): u32' 'pub tag'
 find_lines 1 'kinds and refusals written as numbers' \
     '(joint_row|term_row|place|combine|joined|passive|row|item)\([0-9]|\btag: [0-9]|=> \([0-9]|::[A-Za-z]+(\(Joint::[A-Za-z]+\))? => [0-9]+,|^(pub )?const [A-Z]+: u(16|32) = [0-9];' \
     'crates/edges/|RUNS|UNITS'
-find_lines 2 'macros that write rows, and functions and constants beside them' \
-    'macro_rules!|fn (row|item|passive|joined|let_row|literal|name|chains|sum_of)\(|const (UNUSED|BLANK_ROW|BLANK_TERM|MOST_[A-Z]+|DEEPEST|SKIP|SEQUENCE|CHOICE|ASSERT|ASSUME|ASSIGN)\b'
-find_lines 2 'two functions or impls that differ in a type or a number' \
-    'fn (place|place_of|guard_row_count|guard_node_count|tables_suffice|sequence_nodes|catch_nodes|choice_nodes|write_tail|write_guard)\(|impl TermItem|^    count: u32,|ghost (two|placed):'
+find_lines 2 'rows, shapes and constants that are written in more than one place' \
+    'macro_rules!|^(pub )?fn (row|item|passive|joined|chains|sum_of)\(|const (UNUSED|BLANK_ROW|BLANK_TERM|MOST_NAMES|MOST_VARIABLES|MOST_WAITING|SKIP|RAISE|SEQUENCE|CHOICE|CATCH|ASSERT|ASSUME|ASSIGN|PLUS|MINUS|LESS|EQUAL)\b'
+find_lines 2 'functions, impls and facts that differ in a type or a number' \
+    'fn (place|place_of|guard_row_count|guard_node_count|tables_suffice|sequence_nodes|catch_nodes|choice_nodes|write_tail|write_guard)[<(]|impl TermItem for|ghost (two|placed):|^pub struct (Passive)?TermRow' \
+    'crates/routine/src/checks.rt'
 find_lines 3 'loops over an index, and counters kept by hand' \
-    'for [a-z_]+ in [0-9a-z]+\.\.|\b(next|at|i|renamed|k) \+= 1|= at\.wrapping_add|while '
+    'for [a-z]+ in [0-9a-z]+\.\.|\bnext \+= 1|= at\.wrapping_add' 'for (_|turn|number) in'
 find_lines 4 'equality by hand' '\.0 (==|!=) (other|b|node)'
 find_lines 4 'printing and conversion by hand' \
     'let (number|name|node) = [a-z.]+(\(\)|\.0);|fn [a-z_]+_text\(|-> &.static str|fn (number|tag|sign)\(|\.into\(\)|u32::from\(\*?[a-z]+\.0'
