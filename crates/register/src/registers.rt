@@ -1,6 +1,6 @@
 // A register of conditions over a store.
 ghost use Rattle.std.specs.Prelude.{◌≡◌, ◌<◌, ◌≤◌, ◌↔◌, [], ◌∷◌, ◌++◌, length, IsTrue, slice_set};
-ghost use Rattle.register.specs.Held.{entry_at, struck_out, entry_refusal, unless_refused};
+ghost use Rattle.register.specs.Held.{most_entries, entry_at, struck_out, entry_refusal, unless_refused};
 
 use crate::entries::Entry;
 use kinds::refusals::Refusal;
@@ -92,4 +92,5 @@ pub struct Register<S> {
     v: u32,
     store: S,
     entries: Entries,
+    ghost few: { length entries ≤ most_entries },
 }
