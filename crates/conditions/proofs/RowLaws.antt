@@ -17,7 +17,7 @@ use Rattle.conditions.specs.Asks.{reading_nodes}
 use Rattle.conditions.proofs.Frames.{grown_none, grown_then, grown_by}
 use Rattle.conditions.proofs.TermLaws.{term_grown, term_used, term_value}
 
-yes_or_no_truth : {V : Type 0} (K : KindOf V) (b : Bool) → K.truth (yes_or_no K b) ≡ b
+pub yes_or_no_truth : {V : Type 0} (K : KindOf V) (b : Bool) → K.truth (yes_or_no K b) ≡ b
 yes_or_no_truth K true = K.yes_true
 yes_or_no_truth K false = K.no_false
 

@@ -17,6 +17,7 @@ use Rattle.passive.specs.Rows.{term_row}
 use Rattle.passive.specs.Layout.{single_term, terms, term_rows, rows, joint_row, single_row, layout}
 use Rattle.passive.specs.declared.rows.PassiveTermRow.{PassiveTermRow}
 use Rattle.passive.specs.declared.rows.PassiveRow.{PassiveRow}
+use Rattle.passify.proofs.JoinPieces.{some_rows}
 use Rattle.passify.proofs.Parts.{length_layout, length_term_rows}
 use Rattle.formula.specs.Store.{Meaning, node_no}
 use Rattle.passive.specs.Rows.{item}
@@ -115,10 +116,6 @@ single_left p_skip j = refl
 single_left p_raise j = refl
 single_left p_stop j = refl
 
-rows_some : (p : Passive) → 0 < rows p
-rows_some (p_single p) = omega arith
-rows_some (p_join o p q) = omega arith
-
 module _ (ops width : ℕ) (table : List PassiveTermRow) where
   fit_append : (i : ℕ) (xs ys : List PassiveRow) → RowsFit ops width table i xs → RowsFit ops width table (i + length xs) ys → RowsFit ops width table i (xs ++ ys)
   fit_append i [] ys f g = let e : i + 0 ≡ i = omega arith in subst (λ n. RowsFit ops width table n ys) e g
@@ -149,7 +146,7 @@ module _ (ops width : ℕ) (table : List PassiveTermRow) where
   layout_fits (p_join o p q) i j s w =
       let r = layout q (i + rows p) (j + length (terms p)) in
       let h = layout_fits q (i + rows p) (j + length (terms p)) (stand_right table j o p q s) w.1 in
-      let last = joint_fits (i + rows p + length r) (i + rows p - 1) o (omega (arith, rows_some p)) in
+      let last = joint_fits (i + rows p + length r) (i + rows p - 1) o (omega (arith, some_rows p)) in
       fit_append i (layout p i j) _ (layout_fits p i j (stand_left table j o p q s) w.0)
       (subst (λ n. RowsFit ops width table (i + n) (r ++ (joint_row (joint_tag o) (i + rows p - 1) ∷ []))) (sym (length_layout p i j))
       (fit_append (i + rows p) r _ h (last, tt)))

@@ -1,7 +1,6 @@
 // The two calls: forecast and make_condition.
-ghost use Rattle.std.specs.Prelude.{◌≡◌, true, length, is_ok, Ok};
+ghost use Rattle.std.specs.Prelude.{◌≡◌};
 ghost use Rattle.routine.specs.Decoding.{decode};
-ghost use Rattle.passify.specs.Calls.{passify_answer, rows_after, terms_after};
 ghost use Rattle.formula.specs.Tables.{table_steps, SameTable};
 ghost use Rattle.formula.specs.Evaluators.{evaluator_steps, SameValues};
 ghost use Rattle.conditions.specs.Fixed.{ConditionFixed};
@@ -9,10 +8,9 @@ ghost use Rattle.conditions.specs.Calls.{room_answer, condition_answer, MakesCon
 
 use crate::forms::condition_node;
 use formula::stores::Store;
-use kinds::kind::Kind;
 use kinds::numbered::Node;
 use kinds::refusals::Refusal;
-use passify::calls::{FormLengths, FormMeasures, MOST_NAMES, measure, passify};
+use passify::calls::{FormMeasures, MOST_NAMES, measure, passify};
 use passive::rows::{PassiveRow, PassiveTermRow};
 use routine::rows::{CommandRow, TermRow};
 

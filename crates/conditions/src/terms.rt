@@ -1,5 +1,5 @@
 // The nodes of a term.
-ghost use Rattle.std.specs.Prelude.{◌≡◌, ◌<◌, [], length};
+ghost use Rattle.std.specs.Prelude.{◌<◌, [], length};
 ghost use Rattle.passive.specs.Uses.{WorkableUnder};
 ghost use Rattle.conditions.specs.Reading.{items};
 ghost use Rattle.conditions.specs.Made.{ItemMade, TermMade};

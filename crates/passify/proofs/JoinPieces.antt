@@ -17,7 +17,7 @@ use Rattle.passify.proofs.Sizes.{merge_swap}
 use Rattle.passify.proofs.Parts.{length_layout, length_term_rows, joined_is}
 use Rattle.passify.proofs.Wrotes.{wrote_then, wrote_as, room_as, room_first, room_second}
 
-some_rows : (p : Passive) → 0 < rows p
+pub some_rows : (p : Passive) → 0 < rows p
 some_rows (p_single p) = omega arith
 some_rows (p_join j p q) = omega arith
 

@@ -1,5 +1,5 @@
 -- What is kept of each entry beside its origin, and that every call keeps it.
-use Rattle.std.proofs.Common.{◌≡◌, ℕ, ◌≤◌, Bool, true, false, not, ◌&&◌, List, [], ◌∷◌, ◌++◌, length, None, Ok, Result, sym, ap, ◌∙◌, subst, ap₂, arith}
+use Rattle.std.proofs.Common.{◌≡◌, ℕ, ◌≤◌, true, not, ◌&&◌, List, [], ◌∷◌, ◌++◌, length, None, Ok, Result, sym, ap, ◌∙◌, subst, ap₂, arith}
 use mathlib.Core.Bool.{and-true}
 use Rattle.std.specs.List.{AllZip}
 use Rattle.std.proofs.lemmas.Bool.{and_parts, ltb-true}
@@ -17,8 +17,9 @@ use Rattle.passive.specs.declared.rows.PassiveRow.{PassiveRow}
 use Rattle.passify.proofs.Accepted.{proper, bounds}
 use Rattle.formula.specs.declared.stores.Making.{Making}
 use Rattle.formula.specs.declared.stores.Making.TheVariants as making
-use Rattle.formula.specs.Store.{Meaning, Lawful, yes_or_no, Grown, Makes, node_no}
+use Rattle.formula.specs.Store.{Meaning, Lawful, Grown, Makes, node_no}
 use Rattle.conditions.specs.Valued.{ConditionValued}
+use Rattle.conditions.proofs.RowLaws.{yes_or_no_truth}
 use Rattle.conditions.proofs.FormLaws.{condition_valued}
 use Rattle.register.specs.declared.entries.Entry.{Entry}
 use Rattle.register.specs.declared.entries.Answer.{Answer}
@@ -30,10 +31,6 @@ use Rattle.register.proofs.Tests.{unless_passed}
 use Rattle.register.proofs.SideBySide.{zip_weaker, zip_at, zip_set}
 use Rattle.register.proofs.Routines.{every_append, all_fine, fine_append, Told}
 use Rattle.register.proofs.FileWidths.{names_within}
-
-truth_of : {V : Type 0} (K : KindOf V) (b : Bool) → K.truth (yes_or_no K b) ≡ b
-truth_of K true = K.yes_true
-truth_of K false = K.no_false
 
 module _ {V : Type 0} {S : Type 0} (K : KindOf V) (M : Meaning V S) where
   -- an entry's node is in use and says whether its routines are fine, and these are proper and have names within the width
@@ -116,7 +113,7 @@ module _ {V : Type 0} {S : Type 0} (K : KindOf V) (M : Meaning V S) (steps : S �
             (every_append (Told K v (M.width s)) (routines p) (routines q) x.told y.told);
         says = λ a c.
             let b = (g.covers_same a).0 c in
-            ap K.truth (m.as_stated a b) ∙ truth_of K _ ∙ ap₂ ◌&&◌ (x.says a b) (y.says a b)
+            ap K.truth (m.as_stated a b) ∙ yes_or_no_truth K _ ∙ ap₂ ◌&&◌ (x.says a b) (y.says a b)
             ∙ sym (fine_append K v (routines p) (routines q) a);
         few = tt;
       }

@@ -2,7 +2,7 @@
 ghost use Rattle.std.specs.Prelude.{◌≡◌};
 ghost use Rattle.formula.specs.Store.{DoneOrRefused, Fixing};
 ghost use Rattle.formula.specs.Nodes.{no_place};
-ghost use Rattle.formula.specs.Tables.{table_meaning, table_steps, row_of, combine_refusal, row_asked, RowsStand, SameTable};
+ghost use Rattle.formula.specs.Tables.{table_meaning, table_steps, combine_refusal, row_asked, RowsStand, SameTable};
 ghost use Rattle.formula.specs.TableLaws.{table_lawful, table_sound};
 
 use crate::nodes::Nodes;
