@@ -3,6 +3,7 @@ use Rattle.std.proofs.Common.{◌≡◌, ℕ, zero, suc, ◌+◌, ◌<◌, ◌�
 use Rattle.std.proofs.lemmas.List.{length-take-le, take_more_set}
 use Rattle.std.proofs.Math.Seq.{take-set-lt}
 use Rattle.kinds.specs.declared.numbered.Name.{Name}
+use Rattle.routine.specs.Limits.{most_variables}
 use Rattle.passive.specs.Passive.{name, names_from}
 use Rattle.passify.specs.Padding.{padded, Fills}
 use Rattle.passify.specs.PaddingLaws.{padded_length}
@@ -19,20 +20,20 @@ padded_set (suc n) (x ∷ xs) zero f g h = refl
 padded_set (suc n) (x ∷ xs) (suc i) f g h = ap (λ l. x ∷ l) (padded_set n xs i f (omega arith) (omega arith))
 
 module _ (names : List Name) (len : ℕ) (h : Fills names len) where
-  pub long : length names ≡ 32
-  long = ap length h.rest ∙ padded_length 32 (take len names)
+  pub long : length names ≡ most_variables
+  long = ap length h.rest ∙ padded_length most_variables (take len names)
 
   taken : length (take len names) ≡ len
   taken = length-take-le len names (omega (arith, h.few, long))
 
-  pub fills_push : (f : Name) → len < 32 → Fills (set names len f) (len + 1)
+  pub fills_push : (f : Name) → len < most_variables → Fills (set names len f) (len + 1)
   fills_push f room = record {
     few = omega arith;
     rest =
         ap (λ l. set l len f) h.rest
-        ∙ (ap (λ n. set (padded 32 (take len names)) n f) (sym taken)
-        ∙ (sym (padded_push 32 (take len names) f (omega (arith, taken)))
-        ∙ ap (padded 32) (sym (take_more_set names len f (omega (arith, long))))));
+        ∙ (ap (λ n. set (padded most_variables (take len names)) n f) (sym taken)
+        ∙ (sym (padded_push most_variables (take len names) f (omega (arith, taken)))
+        ∙ ap (padded most_variables) (sym (take_more_set names len f (omega (arith, long))))));
   }
 
   module _ (x : ℕ) (f : Name) (below : x < len) where
@@ -44,10 +45,10 @@ module _ (names : List Name) (len : ℕ) (h : Fills names len) where
       few = h.few;
       rest =
           ap (λ l. set l x f) h.rest
-          ∙ (sym (padded_set 32 (take len names) x f (omega (arith, taken, h.few)) (omega (arith, taken))) ∙ ap (padded 32) (sym names_set));
+          ∙ (sym (padded_set most_variables (take len names) x f (omega (arith, taken, h.few)) (omega (arith, taken))) ∙ ap (padded most_variables) (sym names_set));
     }
 
-  pub room_left : (map : List Name) → take len names ≡ map → length map < 32 → len < 32
+  pub room_left : (map : List Name) → take len names ≡ map → length map < most_variables → len < most_variables
   room_left map e h = omega (arith, taken, ap length e)
 
 -- the names from k on, one more

@@ -1,5 +1,6 @@
 -- The command that ends at a row: a single one, or two parts joined; and what measuring the parts says of the whole.
 use Rattle.std.proofs.Common.{◌≡◌, ℕ, ◌-◌, ◌<◌, List, get_or, Some, None, Option, sym, refl, ap, ◌∙◌, subst, arith}
+use Rattle.std.proofs.lemmas.Option.{none-some}
 use Rattle.kinds.specs.declared.numbered.Name.{Name}
 use Rattle.routine.specs.declared.rows.TermRow.{TermRow}
 use Rattle.routine.specs.declared.rows.CommandRow.{CommandRow}
@@ -32,9 +33,6 @@ of_joint Sequence = refl
 of_joint Choice = refl
 of_joint Catch = refl
 
-some_or_none : {j : Joint} → Some j ≡ None → ⊥
-some_or_none e = let z : ◌≡◌ {A = ℕ} 0 1 = cc in absurd (omega arith)
-
 module _ (v ops : ℕ) (cs : List CommandRow) (ts : List TermRow) (i : ℕ) where
   tagged : {n : ℕ} → (at cs i).tag ≡ n → joint_at cs i ≡ joint_of (tag_of n)
   tagged e = ap (λ n. joint_of (tag_of n)) e
@@ -48,7 +46,7 @@ module _ (v ops : ℕ) (cs : List CommandRow) (ts : List TermRow) (i : ℕ) wher
     pub at_right : EndsAt v ops cs ts (i - 1) second
 
   pub parts : (joint : Joint) (c : Command) → EndsAt v ops cs ts i c → joint_at cs i ≡ Some joint → Parts joint c
-  parts joint (single c) e s = absurd (some_or_none (sym s ∙ (tagged e.1 ∙ of_single c)))
+  parts joint (single c) e s = absurd (none-some _ (sym (tagged e.1 ∙ of_single c) ∙ s))
   parts joint (join j a b) e s =
       let same : Some j ≡ Some joint = sym (tagged e.1 ∙ of_joint j) ∙ s in
       let joint_is : j ≡ joint = cc in
@@ -62,7 +60,7 @@ module _ (v ops : ℕ) (cs : List CommandRow) (ts : List TermRow) (i : ℕ) wher
 
   pub alone : (c : Command) → EndsAt v ops cs ts i c → joint_at cs i ≡ None → Alone c
   alone (single c) e n = record { command = c; is = refl; tag = e.1; fields = e.2 }
-  alone (join j a b) e n = absurd (some_or_none (sym (tagged e.1 ∙ of_joint j) ∙ n))
+  alone (join j a b) e n = absurd (none-some _ (sym n ∙ (tagged e.1 ∙ of_joint j)))
 
 module _ (cs : List CommandRow) (ts : List TermRow) (i : ℕ) (k : ℕ) where
   module _ (m : List Name) where

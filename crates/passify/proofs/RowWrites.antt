@@ -41,6 +41,14 @@ module _ (cs : List CommandRow) (ts : List TermRow) (i k : ℕ) (s : Place) (E :
       go (single c) = (m, w)
       go (join j a b) = (m, w)
 
+  -- what is known of one map holds of an equal one
+  pub from_same :
+      {o o' : Names} {E' : List PassiveRow} {T' : List PassiveTermRow} {r : Passed} → o ≡ o' → Written cs ts i o k s E E' T T' r → Written cs ts i o' k s E E' T T' r
+  from_same {E' = E'} {T' = T'} {r = r} is w = subst (λ o. Written cs ts i o k s E E' T T' r) is w
+
+  pub room_same : {o o' : Names} → o ≡ o' → Writable cs ts i o k s E T → Writable cs ts i o' k s E T
+  room_same is w = subst (λ o. Writable cs ts i o k s E T) is w
+
   module _ (m : List Name) where
     -- a single command
     module _ (none : joint_at cs i ≡ None) where

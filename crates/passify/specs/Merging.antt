@@ -1,5 +1,6 @@
 -- What the merging of two maps answers.
 use Rattle.std.specs.Prelude.{◌≡◌, ◌≤◌, length}
+use Rattle.routine.specs.Limits.{most_variables}
 use Rattle.passive.specs.Passive.{Merge}
 use Rattle.passify.specs.declared.maps.Merging.{Merging as Answer}
 
@@ -8,4 +9,4 @@ pub record Merges (r : Answer) (m : Merge) : Type 0 where
   pub names : r.names ≡ m.names
   pub next : r.next ≡ m.next
   pub renamed : r.renamed ≡ length m.left
-  pub few : r.renamed ≤ 32
+  pub few : r.renamed ≤ most_variables

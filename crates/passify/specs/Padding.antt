@@ -1,6 +1,7 @@
 -- How an array holds the names of a map.
 use Rattle.std.specs.Prelude.{◌≡◌, ℕ, zero, suc, ◌≤◌, List, [], ◌∷◌, take}
 use Rattle.kinds.specs.declared.numbered.Name.{Name}
+use Rattle.routine.specs.Limits.{most_variables}
 use Rattle.passive.specs.Passive.{name}
 
 -- n names: those of the list, and name 0 behind them
@@ -11,5 +12,5 @@ padded (suc n) (x ∷ xs) = x ∷ padded n xs
 
 -- the names of `len` variables, and none behind them
 pub record Fills (names : List Name) (len : ℕ) : Type 0 where
-  pub few : len ≤ 32
-  pub rest : names ≡ padded 32 (take len names)
+  pub few : len ≤ most_variables
+  pub rest : names ≡ padded most_variables (take len names)

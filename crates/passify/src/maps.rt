@@ -1,5 +1,6 @@
 // Maps from variables to names, and merging them.
 ghost use Rattle.std.specs.Prelude.{◌≡◌, ◌^◌, ◌<◌, ◌≤◌, [], ◌∷◌, ◌++◌, Some, length, slice_index_or, slice_set};
+ghost use Rattle.routine.specs.Limits.{most_variables};
 ghost use Rattle.passive.specs.Passive.{name, names_from, merge};
 ghost use Rattle.passify.specs.Merging.{Merges};
 
@@ -17,6 +18,7 @@ pub struct NameMap {
 impl Model for NameMap {
     ghost use Rattle.std.specs.Prelude.{List, take, length};
     ghost use Rattle.kinds.specs.declared.numbered.Name.{Name};
+    ghost use Rattle.routine.specs.Limits.{most_variables};
     ghost use Rattle.passify.specs.Padding.{padded, Fills};
     ghost use Rattle.passify.specs.PaddingLaws.{unpadded};
 
@@ -26,7 +28,7 @@ impl Model for NameMap {
 
     ghost invariant = { λ m. Fills m.names m.len };
 
-    ghost inverse = { λ names. record { names = padded 32 names; len = length names } };
+    ghost inverse = { λ names. record { names = padded most_variables names; len = length names } };
 
     ghost inverse_ok = { λ m h i. record { names = (unpadded m.names m.len h).same_names i; len = (unpadded m.names m.len h).same_len i } };
 }
@@ -44,7 +46,7 @@ impl NameMap {
 
     // Gives the next variable this name.
     fn push(&mut self, f: Name)
-        requires { length self.old < 32 }
+        requires { length self.old < most_variables }
         ensures { self.new ≡ self.old ++ f ∷ [] }
     {
         self.names[self.len] = f;
@@ -53,7 +55,7 @@ impl NameMap {
 
     // Variable i starts with name i.
     pub fn first(v: u32) -> NameMap
-        requires { v ≤ 32 }
+        requires { v ≤ most_variables }
         ensures { result ≡ names_from 0 v }
     {
         let mut names = NameMap::new();
@@ -66,7 +68,7 @@ impl NameMap {
     // The names of the variables, in order.
     pub fn as_slice(&self) -> &[Name]
         ensures names { result.now ≡ self.now }
-        ensures few { length result.now ≤ 32 }
+        ensures few { length result.now ≤ most_variables }
     {
         &self.names[..self.len]
     }

@@ -1,5 +1,6 @@
 // Measuring: what the passive form of a command takes, and the maps that it ends with.
 ghost use Rattle.std.specs.Prelude.{◌≡◌, ◌≤◌, List, Some, None};
+ghost use Rattle.routine.specs.Limits.{most_variables};
 ghost use Rattle.passive.specs.Passive.{passify_single, entry as entry_map};
 ghost use Rattle.passive.specs.Outcomes.{joint_nodes as nodes_of_joint};
 ghost use Rattle.passify.specs.Measuring.{stop_sizes, guard_size, leaving, joined_sizes, sizes, Fits, AtSingle, SomeSingle, Measurable, Measures};
@@ -110,7 +111,7 @@ fn joint_nodes(joint: Joint) -> u32
 
 // What guards `renamed` renamings: nothing where there are none; else so much for each, and as much again for the guard.
 fn guard_size(renamed: u32, each: u32, guard: u32) -> u32
-    requires few { renamed ≤ 32 }
+    requires few { renamed ≤ most_variables }
     requires small { (each ≤ 8) × (guard ≤ 8) }
     ensures { result ≡ guard_size renamed each guard }
 {

@@ -1,5 +1,5 @@
 // Writing the passive form of a command.
-ghost use Rattle.std.specs.Prelude.{◌≡◌, ℕ, ◌+◌, ◌^◌, ◌<◌, ◌≤◌, List, [], ◌∷◌, map, length, Ok};
+ghost use Rattle.std.specs.Prelude.{◌≡◌, ◌+◌, ◌^◌, ◌<◌, ◌≤◌, List, [], ◌∷◌, map, length, Ok};
 ghost use Rattle.routine.specs.Rows.{tag_of, item};
 ghost use Rattle.routine.specs.declared.rows.Tag.TheVariants.{Assign};
 ghost use Rattle.passive.specs.Passive.{renamed, rename, passify_single};

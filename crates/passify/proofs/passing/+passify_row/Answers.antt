@@ -1,9 +1,8 @@
-use Rattle.std.proofs.Common.{◌-◌, Some, sym, ap, subst, ◌∙◌, arith}
+use Rattle.std.proofs.Common.{Some, sym, ap, ◌∙◌, arith}
 use Rattle.passify.specs.Pieces.{one_row}
-use Rattle.passify.specs.Writing.{Writable, Written}
 use Rattle.passify.proofs.Wrotes.{wrote_as}
 use Rattle.passify.proofs.RowParts.{left_falls, single_measurable, joined_fits}
-use Rattle.passify.proofs.RowWrites.{writable_measurable, stop_written, single_writable, left_writable, left_measures, right_measured, left_side_room, right_writable, middle_some, right_side_room, row_room, joined_written}
+use Rattle.passify.proofs.RowWrites.{writable_measurable, stop_written, from_same, room_same, single_writable, left_writable, left_measures, right_measured, left_side_room, right_writable, middle_some, right_side_room, row_room, joined_written}
 use Rattle.passify.proofs.passing.+passify_row.Goals as goal
 
 pub returns-in_default : goal.returns-in_default
@@ -13,138 +12,79 @@ returns-in_default t c =
 
 pub passify_single-end-requires : goal.passify_single-end-requires
 passify_single-end-requires t c =
-    let w = subst (λ o. Writable c.args.commands.now c.args.terms.now c.args.i o c.args.next c.args.at c.args.rows.now c.args.out.now) c.in-Some.is c.requires in
+    let w = room_same _ _ _ _ _ _ _ c.in-Some.is c.requires in
     let n = sym c.joint.ensures ∙ c.in_default-joint.is in
     single_writable _ _ _ _ _ _ _ _ n w
 
 pub measure_single-measured-requires : goal.measure_single-measured-requires
 measure_single-measured-requires t c =
-    let w = subst (λ o. Writable c.args.commands.now c.args.terms.now c.args.i o c.args.next c.args.at c.args.rows.now c.args.out.now) c.in-Some.is c.requires in
+    let w = room_same _ _ _ _ _ _ _ c.in-Some.is c.requires in
     let n = sym c.joint.ensures ∙ c.in_default-joint.is in
     (c.args.terms.now, single_measurable _ _ _ _ _ n (writable_measurable _ _ _ c.args.next _ _ _ (Some c.in-Some.m) w))
 
 pub passify_row-left-requires : goal.passify_row-left-requires
 passify_row-left-requires t c =
-    let w = subst (λ o. Writable c.args.commands.now c.args.terms.now c.args.i o c.args.next c.args.at c.args.rows.now c.args.out.now) c.in-Some.is c.requires in
+    let w = room_same _ _ _ _ _ _ _ c.in-Some.is c.requires in
     let s = sym c.joint.ensures ∙ c.in-Some-joint.is in
-    (omega (arith, left_falls _ _ _ c.args.next c.in-Some.m _ s (writable_measurable _ _ _ c.args.next _ _ _ (Some c.in-Some.m) w), c.decreases), left_writable _ _ _ _ _ _ _ _ _ s w)
+    let f = writable_measurable _ _ _ c.args.next _ _ _ (Some c.in-Some.m) w in
+    (omega (arith, left_falls _ _ _ c.args.next c.in-Some.m _ s f, c.decreases), left_writable _ _ _ _ _ _ _ _ _ s w)
 
 pub measure_row-right-requires : goal.measure_row-right-requires
 measure_row-right-requires t c =
-    let w = subst (λ o. Writable c.args.commands.now c.args.terms.now c.args.i o c.args.next c.args.at c.args.rows.now c.args.out.now) c.in-Some.is c.requires in
+    let w = room_same _ _ _ _ _ _ _ c.in-Some.is c.requires in
     let s = sym c.joint.ensures ∙ c.in-Some-joint.is in
     (c.args.terms.now, right_measured _ _ _ _ _ _ _ _ _ s _ _ _ c.passify_row-left.ensures _ c.entry.ensures w)
 
-pub write_side-middle-requires-clause-names : goal.write_side-middle-requires-clause-names
-write_side-middle-requires-clause-names t c =
-    let w = subst (λ o. Writable c.args.commands.now c.args.terms.now c.args.i o c.args.next c.args.at c.args.rows.now c.args.out.now) c.in-Some.is c.requires in
+pub write_side-middle-requires : goal.write_side-middle-requires
+write_side-middle-requires t c =
+    let w = room_same _ _ _ _ _ _ _ c.in-Some.is c.requires in
     let s = sym c.joint.ensures ∙ c.in-Some-joint.is in
-    (left_side_room _ _ _ _ _ _ _ _ _ s _ _ _ c.passify_row-left.ensures _ c.entry.ensures _ (c.measure_row-right.ensures c.args.terms.now) _ c.left_exits-exits.ensures w).names
-
-pub write_side-middle-requires-clause-behind : goal.write_side-middle-requires-clause-behind
-write_side-middle-requires-clause-behind t c =
-    let w = subst (λ o. Writable c.args.commands.now c.args.terms.now c.args.i o c.args.next c.args.at c.args.rows.now c.args.out.now) c.in-Some.is c.requires in
-    let s = sym c.joint.ensures ∙ c.in-Some-joint.is in
-    (left_side_room _ _ _ _ _ _ _ _ _ s _ _ _ c.passify_row-left.ensures _ c.entry.ensures _ (c.measure_row-right.ensures c.args.terms.now) _ c.left_exits-exits.ensures w).behind
-
-pub write_side-middle-requires-clause-room : goal.write_side-middle-requires-clause-room
-write_side-middle-requires-clause-room t c =
-    let w = subst (λ o. Writable c.args.commands.now c.args.terms.now c.args.i o c.args.next c.args.at c.args.rows.now c.args.out.now) c.in-Some.is c.requires in
-    let s = sym c.joint.ensures ∙ c.in-Some-joint.is in
-    (left_side_room _ _ _ _ _ _ _ _ _ s _ _ _ c.passify_row-left.ensures _ c.entry.ensures _ (c.measure_row-right.ensures c.args.terms.now) _ c.left_exits-exits.ensures w).room
+    let h = left_side_room _ _ _ _ _ _ _ _ _ s _ _ _ c.passify_row-left.ensures _ c.entry.ensures _ (c.measure_row-right.ensures c.args.terms.now) _ c.left_exits-exits.ensures w in
+    record { names = h.names; behind = h.behind; room = h.room }
 
 pub passify_row-again-requires : goal.passify_row-again-requires
 passify_row-again-requires t c =
-    let w = subst (λ o. Writable c.args.commands.now c.args.terms.now c.args.i o c.args.next c.args.at c.args.rows.now c.args.out.now) c.in-Some.is c.requires in
-    let s = sym c.joint.ensures ∙ c.in-Some-joint.is in (
-      omega (arith, left_falls _ _ _ c.args.next c.in-Some.m _ s (writable_measurable _ _ _ c.args.next _ _ _ (Some c.in-Some.m) w), c.decreases),
-      subst
-          (λ o. Writable c.args.commands.now c.args.terms.now (c.args.i - 1) o c.passify_row-left.result.measured.next c.write_side-middle.result
-          c.write_side-middle.new.rows c.write_side-middle.new.terms)
-          (c.entry.ensures ∙ sym c.entry-2.ensures)
-          (right_writable _ _ _ _ _ _ _ _ _ s _ _ _ c.passify_row-left.ensures _ c.entry.ensures _ (c.measure_row-right.ensures c.args.terms.now) _ c.left_exits-exits.ensures _ _ _ c.write_side-middle.ensures w),
+    let w = room_same _ _ _ _ _ _ _ c.in-Some.is c.requires in
+    let s = sym c.joint.ensures ∙ c.in-Some-joint.is in
+    let f = writable_measurable _ _ _ c.args.next _ _ _ (Some c.in-Some.m) w in (
+      omega (arith, left_falls _ _ _ c.args.next c.in-Some.m _ s f, c.decreases),
+      room_same _ _ _ _ _ _ _ (c.entry.ensures ∙ sym c.entry-2.ensures) (right_writable _ _ _ _ _ _ _ _ _ s _ _ _ c.passify_row-left.ensures _ c.entry.ensures _ (c.measure_row-right.ensures c.args.terms.now) _ c.left_exits-exits.ensures _ _ _ c.write_side-middle.ensures w),
     )
 
-pub write_side-behind-requires-clause-names : goal.write_side-behind-requires-clause-names
-write_side-behind-requires-clause-names t c =
-    let w = subst (λ o. Writable c.args.commands.now c.args.terms.now c.args.i o c.args.next c.args.at c.args.rows.now c.args.out.now) c.in-Some.is c.requires in
+pub write_side-behind-requires : goal.write_side-behind-requires
+write_side-behind-requires t c =
+    let w = room_same _ _ _ _ _ _ _ c.in-Some.is c.requires in
     let s = sym c.joint.ensures ∙ c.in-Some-joint.is in
-    let a =
-    subst
-    (λ o. Written c.args.commands.now c.args.terms.now (c.args.i - 1) o c.passify_row-left.result.measured.next c.write_side-middle.result
-    c.write_side-middle.new.rows c.passify_row-again.new.rows c.write_side-middle.new.terms c.passify_row-again.new.out c.passify_row-again.result)
-    (c.entry-2.ensures ∙ sym c.entry.ensures) c.passify_row-again.ensures in
-    (right_side_room _ _ _ _ _ _ _ _ _ s _ _ _ c.passify_row-left.ensures _ c.entry.ensures _ (c.measure_row-right.ensures c.args.terms.now) _ c.left_exits-exits.ensures _ _ _ c.write_side-middle.ensures _ _ _ a w).names
-
-pub write_side-behind-requires-clause-behind : goal.write_side-behind-requires-clause-behind
-write_side-behind-requires-clause-behind t c =
-    let w = subst (λ o. Writable c.args.commands.now c.args.terms.now c.args.i o c.args.next c.args.at c.args.rows.now c.args.out.now) c.in-Some.is c.requires in
-    let s = sym c.joint.ensures ∙ c.in-Some-joint.is in
-    let a =
-    subst
-    (λ o. Written c.args.commands.now c.args.terms.now (c.args.i - 1) o c.passify_row-left.result.measured.next c.write_side-middle.result
-    c.write_side-middle.new.rows c.passify_row-again.new.rows c.write_side-middle.new.terms c.passify_row-again.new.out c.passify_row-again.result)
-    (c.entry-2.ensures ∙ sym c.entry.ensures) c.passify_row-again.ensures in
-    (right_side_room _ _ _ _ _ _ _ _ _ s _ _ _ c.passify_row-left.ensures _ c.entry.ensures _ (c.measure_row-right.ensures c.args.terms.now) _ c.left_exits-exits.ensures _ _ _ c.write_side-middle.ensures _ _ _ a w).behind
-
-pub write_side-behind-requires-clause-room : goal.write_side-behind-requires-clause-room
-write_side-behind-requires-clause-room t c =
-    let w = subst (λ o. Writable c.args.commands.now c.args.terms.now c.args.i o c.args.next c.args.at c.args.rows.now c.args.out.now) c.in-Some.is c.requires in
-    let s = sym c.joint.ensures ∙ c.in-Some-joint.is in
-    let a =
-    subst
-    (λ o. Written c.args.commands.now c.args.terms.now (c.args.i - 1) o c.passify_row-left.result.measured.next c.write_side-middle.result
-    c.write_side-middle.new.rows c.passify_row-again.new.rows c.write_side-middle.new.terms c.passify_row-again.new.out c.passify_row-again.result)
-    (c.entry-2.ensures ∙ sym c.entry.ensures) c.passify_row-again.ensures in
-    (right_side_room _ _ _ _ _ _ _ _ _ s _ _ _ c.passify_row-left.ensures _ c.entry.ensures _ (c.measure_row-right.ensures c.args.terms.now) _ c.left_exits-exits.ensures _ _ _ c.write_side-middle.ensures _ _ _ a w).room
+    let a = from_same _ _ _ _ _ _ _ (c.entry-2.ensures ∙ sym c.entry.ensures) c.passify_row-again.ensures in
+    let h = right_side_room _ _ _ _ _ _ _ _ _ s _ _ _ c.passify_row-left.ensures _ c.entry.ensures _ (c.measure_row-right.ensures c.args.terms.now) _ c.left_exits-exits.ensures _ _ _ c.write_side-middle.ensures _ _ _ a w in
+    record { names = h.names; behind = h.behind; room = h.room }
 
 pub overflow_sub-middle : goal.overflow_sub-middle
 overflow_sub-middle t c =
-    let w = subst (λ o. Writable c.args.commands.now c.args.terms.now c.args.i o c.args.next c.args.at c.args.rows.now c.args.out.now) c.in-Some.is c.requires in
+    let w = room_same _ _ _ _ _ _ _ c.in-Some.is c.requires in
     let s = sym c.joint.ensures ∙ c.in-Some-joint.is in
     omega (arith, middle_some _ _ _ _ _ _ _ _ _ s _ _ _ c.passify_row-left.ensures _ c.entry.ensures _ (c.measure_row-right.ensures c.args.terms.now) _ c.left_exits-exits.ensures _ _ _ c.write_side-middle.ensures w)
 
 pub measure_joined-requires : goal.measure_joined-requires
 measure_joined-requires t c =
-    let w = subst (λ o. Writable c.args.commands.now c.args.terms.now c.args.i o c.args.next c.args.at c.args.rows.now c.args.out.now) c.in-Some.is c.requires in
+    let w = room_same _ _ _ _ _ _ _ c.in-Some.is c.requires in
     let s = sym c.joint.ensures ∙ c.in-Some-joint.is in
     joined_fits _ _ _ _ _ _ s _ (left_measures _ _ _ _ _ _ _ _ _ s _ _ _ c.passify_row-left.ensures _ c.entry.ensures) _ c.entry.ensures _
     (c.measure_row-right.ensures c.args.terms.now) (writable_measurable _ _ _ c.args.next _ _ _ (Some c.in-Some.m) w)
 
-pub write_row-requires-2-clause-within : goal.write_row-requires-2-clause-within
-write_row-requires-2-clause-within t c =
-    let w = subst (λ o. Writable c.args.commands.now c.args.terms.now c.args.i o c.args.next c.args.at c.args.rows.now c.args.out.now) c.in-Some.is c.requires in
+pub write_row-requires-2 : goal.write_row-requires-2
+write_row-requires-2 t c =
+    let w = room_same _ _ _ _ _ _ _ c.in-Some.is c.requires in
     let s = sym c.joint.ensures ∙ c.in-Some-joint.is in
-    let a =
-    subst
-    (λ o. Written c.args.commands.now c.args.terms.now (c.args.i - 1) o c.passify_row-left.result.measured.next c.write_side-middle.result
-    c.write_side-middle.new.rows c.passify_row-again.new.rows c.write_side-middle.new.terms c.passify_row-again.new.out c.passify_row-again.result)
-    (c.entry-2.ensures ∙ sym c.entry.ensures) c.passify_row-again.ensures in
-    (row_room _ _ _ _ _ _ _ _ _ s _ _ _ c.passify_row-left.ensures _ c.entry.ensures _ (c.measure_row-right.ensures c.args.terms.now) _ c.left_exits-exits.ensures _ _ _ c.write_side-middle.ensures _ _ _ a _ _ _ c.write_side-behind.ensures w).0
-
-pub write_row-requires-2-clause-few : goal.write_row-requires-2-clause-few
-write_row-requires-2-clause-few t c =
-    let w = subst (λ o. Writable c.args.commands.now c.args.terms.now c.args.i o c.args.next c.args.at c.args.rows.now c.args.out.now) c.in-Some.is c.requires in
-    let s = sym c.joint.ensures ∙ c.in-Some-joint.is in
-    let a =
-    subst
-    (λ o. Written c.args.commands.now c.args.terms.now (c.args.i - 1) o c.passify_row-left.result.measured.next c.write_side-middle.result
-    c.write_side-middle.new.rows c.passify_row-again.new.rows c.write_side-middle.new.terms c.passify_row-again.new.out c.passify_row-again.result)
-    (c.entry-2.ensures ∙ sym c.entry.ensures) c.passify_row-again.ensures in
-    (row_room _ _ _ _ _ _ _ _ _ s _ _ _ c.passify_row-left.ensures _ c.entry.ensures _ (c.measure_row-right.ensures c.args.terms.now) _ c.left_exits-exits.ensures _ _ _ c.write_side-middle.ensures _ _ _ a _ _ _ c.write_side-behind.ensures w).1
+    let a = from_same _ _ _ _ _ _ _ (c.entry-2.ensures ∙ sym c.entry.ensures) c.passify_row-again.ensures in
+    let r = row_room _ _ _ _ _ _ _ _ _ s _ _ _ c.passify_row-left.ensures _ c.entry.ensures _ (c.measure_row-right.ensures c.args.terms.now) _ c.left_exits-exits.ensures _ _ _ c.write_side-middle.ensures _ _ _ a _ _ _ c.write_side-behind.ensures w in
+    record { within = r.0; few = r.1 }
 
 pub returns : goal.returns
 returns t c =
-    let w = subst (λ o. Writable c.args.commands.now c.args.terms.now c.args.i o c.args.next c.args.at c.args.rows.now c.args.out.now) c.in-Some.is c.requires in
+    let w = room_same _ _ _ _ _ _ _ c.in-Some.is c.requires in
     let s = sym c.joint.ensures ∙ c.in-Some-joint.is in
-    let a =
-    subst
-    (λ o. Written c.args.commands.now c.args.terms.now (c.args.i - 1) o c.passify_row-left.result.measured.next c.write_side-middle.result
-    c.write_side-middle.new.rows c.passify_row-again.new.rows c.write_side-middle.new.terms c.passify_row-again.new.out c.passify_row-again.result)
-    (c.entry-2.ensures ∙ sym c.entry.ensures) c.passify_row-again.ensures in
-    subst
-    (λ o. Written c.args.commands.now c.args.terms.now c.args.i o c.args.next c.args.at c.args.rows.now c.write_row-2.new.rows
-    c.args.out.now c.write_side-behind.new.terms (record { measured = c.measure_joined.result; end = c.write_row-2.result }))
-    (sym c.in-Some.is)
+    let a = from_same _ _ _ _ _ _ _ (c.entry-2.ensures ∙ sym c.entry.ensures) c.passify_row-again.ensures in
+    from_same _ _ _ _ _ _ _ (sym c.in-Some.is)
     (joined_written _ _ _ _ _ _ _ _ _ s _ _ _ c.passify_row-left.ensures _ c.entry.ensures _ (c.measure_row-right.ensures c.args.terms.now) _ c.left_exits-exits.ensures _ _ _ c.write_side-middle.ensures _ _ _ a _ _ _ c.write_side-behind.ensures _ _ _ _ w c.measure_joined.ensures c.joining-joined.ensures
     (c.write_row-2.ensures c.write_side-behind.new.terms))
