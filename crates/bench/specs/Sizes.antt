@@ -1,6 +1,7 @@
 -- The sizes of routines, and the families that they grow in.
 use Rattle.std.specs.Prelude.{ℕ, ◌+◌, ◌*◌, List, [], ◌∷◌}
 use Rattle.routine.specs.declared.rows.Joint.TheVariants.{Sequence, Choice}
+use Rattle.routine.specs.Standing.{joint_tag}
 use Rattle.shapes.specs.declared.Shape.TheVariants.{Combs, Tree}
 use Rattle.shapes.specs.declared.Pattern.{Pattern}
 use Rattle.worked.specs.Tables.{assign_row}
@@ -37,4 +38,4 @@ families =
 
 -- assignments of three term rows, from the first on
 abbrev pub pattern : Family → Size → Pattern
-pattern family size = record { shape = size.shape; joint = family.joint; single = assign_row 0 0 3; variables = family.variables }
+pattern family size = record { shape = size.shape; joint = joint_tag family.joint; single = assign_row 0 0 3; variables = family.variables }

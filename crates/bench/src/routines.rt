@@ -118,7 +118,7 @@ pub fn commands(heap: Global, family: Family, size: Size) -> Result<Vec<CommandR
         rows.as_mut_slice(),
         Pattern {
             shape: size.shape,
-            joint: family.joint,
+            joint: u32::from(family.joint),
             single: command_row!(assign 0, term 0 + 3),
             variables: family.variables,
         },

@@ -82,7 +82,7 @@ target_at variables i = cond (variables == 0) 0 (i % variables)
 abbrev pub row_of : Pattern → ℕ → Option ℕ → CommandRow
 row_of p i None =
     record { tag = p.single.tag; target = target_at p.variables i; from = p.single.from; count = p.single.count; left = p.single.left }
-row_of p i (Some left) = joint_command (joint_tag p.joint) left
+row_of p i (Some left) = joint_command p.joint left
 
 -- row i of a routine
 abbrev pub row_at : Pattern → ℕ → CommandRow
@@ -90,7 +90,7 @@ row_at p i = row_of p i (left_of p.shape i)
 
 -- skips in sequence
 abbrev pub skips : Shape → Pattern
-skips shape = record { shape = shape; joint = Sequence; single = skip_row; variables = 0 }
+skips shape = record { shape = shape; joint = joint_tag Sequence; single = skip_row; variables = 0 }
 
 -- row k of a term of n rows: literals 1, the middle row the last of them, and then additions
 abbrev pub sum_row : ℕ → ℕ → TermRow

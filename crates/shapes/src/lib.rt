@@ -41,7 +41,8 @@ pub fn comb(joined: u8) -> Shape
 #[derive(Clone, Copy)]
 pub struct Pattern {
     pub shape: Shape,
-    pub joint: Joint,
+    // The tag of the rows that join.
+    pub joint: u32,
     pub single: CommandRow,
     pub variables: u32,
 }
@@ -54,7 +55,7 @@ pub fn skips(shape: Shape) -> Pattern
 {
     Pattern {
         shape,
-        joint: Joint::Sequence,
+        joint: u32::from(Joint::Sequence),
         single: SKIP,
         variables: 0,
     }
@@ -180,7 +181,7 @@ impl Pattern {
                 ..self.single
             },
             Some(left) => CommandRow {
-                tag: u32::from(self.joint),
+                tag: self.joint,
                 left,
                 ..SKIP
             },
