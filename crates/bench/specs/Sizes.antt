@@ -1,6 +1,8 @@
 -- The sizes of routines, and the families that they grow in.
 use Rattle.std.specs.Prelude.{ℕ, ◌+◌, ◌*◌, List, [], ◌∷◌}
+use Rattle.routine.specs.declared.rows.Joint.{Joint}
 use Rattle.routine.specs.declared.rows.Joint.TheVariants.{Sequence, Choice}
+use Rattle.routine.specs.Standing.{joint_tag}
 use Rattle.shapes.specs.declared.Shape.TheVariants.{Combs, Tree}
 use Rattle.shapes.specs.declared.Pattern.{Pattern}
 use Rattle.worked.specs.Tables.{assign_row}
@@ -24,17 +26,14 @@ deep_combs = combs 0 8 ∷ combs 0 63 ∷ combs 3 60 ∷ combs 8 55 ∷ []
 abbrev pub smaller_combs : List Size
 smaller_combs = combs 0 8 ∷ combs 0 63 ∷ combs 1 62 ∷ combs 3 60 ∷ []
 
-abbrev pub sequences : ℕ → List Size → Family
-sequences v sizes = record { joint = Sequence; variables = v; sizes = sizes }
-
-abbrev pub choices : ℕ → List Size → Family
-choices v sizes = record { joint = Choice; variables = v; sizes = sizes }
+abbrev pub joined_by : Joint → ℕ → List Size → Family
+joined_by joint v sizes = record { joint = joint; variables = v; sizes = sizes }
 
 abbrev pub families : List Family
 families =
-    sequences 1 trees ∷ sequences 32 trees ∷ sequences 8 deep_combs ∷ sequences 32 deep_combs
-    ∷ choices 8 trees ∷ choices 32 trees ∷ choices 1 deep_combs ∷ choices 8 smaller_combs ∷ []
+    joined_by Sequence 1 trees ∷ joined_by Sequence 32 trees ∷ joined_by Sequence 8 deep_combs ∷ joined_by Sequence 32 deep_combs
+    ∷ joined_by Choice 8 trees ∷ joined_by Choice 32 trees ∷ joined_by Choice 1 deep_combs ∷ joined_by Choice 8 smaller_combs ∷ []
 
 -- assignments of three term rows, from the first on
 abbrev pub pattern : Family → Size → Pattern
-pattern family size = record { shape = size.shape; joint = family.joint; single = assign_row 0 0 3; variables = family.variables }
+pattern family size = record { shape = size.shape; joint = joint_tag family.joint; single = assign_row 0 0 3; variables = family.variables }

@@ -2,7 +2,7 @@
 ghost use Rattle.std.specs.Prelude.{◌≡◌, ℕ, ◌%◌, ◌<◌, IfOk, vec_len, slice_index_or};
 ghost use Rattle.worked.specs.Tables.{skip_row};
 ghost use Rattle.shapes.specs.Shapes.{row_at};
-ghost use Rattle.bench.specs.Sizes.{pattern, tree, combs, trees, deep_combs, smaller_combs, sequences, choices, families};
+ghost use Rattle.bench.specs.Sizes.{pattern, tree, combs, trees, deep_combs, smaller_combs, joined_by, families};
 
 use kinds::numbers::PLUS;
 use routine::rows::{CommandRow, Joint, TermRow};
@@ -67,21 +67,11 @@ fn smaller_combs() -> [Size; 4]
     [combs(0, 8), combs(0, 63), combs(1, 62), combs(3, 60)]
 }
 
-fn sequences(variables: u32, sizes: [Size; 4]) -> Family
-    ensures { result ≡ sequences variables sizes }
+fn joined_by(joint: Joint, variables: u32, sizes: [Size; 4]) -> Family
+    ensures { result ≡ joined_by joint variables sizes }
 {
     Family {
-        joint: Joint::Sequence,
-        variables,
-        sizes,
-    }
-}
-
-fn choices(variables: u32, sizes: [Size; 4]) -> Family
-    ensures { result ≡ choices variables sizes }
-{
-    Family {
-        joint: Joint::Choice,
+        joint,
         variables,
         sizes,
     }
@@ -91,14 +81,14 @@ pub fn families() -> [Family; 8]
     ensures { result ≡ families }
 {
     [
-        sequences(1, trees()),
-        sequences(32, trees()),
-        sequences(8, deep_combs()),
-        sequences(32, deep_combs()),
-        choices(8, trees()),
-        choices(32, trees()),
-        choices(1, deep_combs()),
-        choices(8, smaller_combs()),
+        joined_by(Joint::Sequence, 1, trees()),
+        joined_by(Joint::Sequence, 32, trees()),
+        joined_by(Joint::Sequence, 8, deep_combs()),
+        joined_by(Joint::Sequence, 32, deep_combs()),
+        joined_by(Joint::Choice, 8, trees()),
+        joined_by(Joint::Choice, 32, trees()),
+        joined_by(Joint::Choice, 1, deep_combs()),
+        joined_by(Joint::Choice, 8, smaller_combs()),
     ]
 }
 
@@ -118,7 +108,7 @@ pub fn commands(heap: Global, family: Family, size: Size) -> Result<Vec<CommandR
         rows.as_mut_slice(),
         Pattern {
             shape: size.shape,
-            joint: family.joint,
+            joint: u32::from(family.joint),
             single: command_row!(assign 0, term 0 + 3),
             variables: family.variables,
         },

@@ -15,7 +15,7 @@ use register::entries::Filing;
 use register::registers::Register;
 use routine::rows::{CommandRow, Joint, TermRow};
 use routine::{command_row, term_row};
-use shapes::{SKIP, Shape, comb, fill, fill_sum, skips};
+use shapes::{SKIP, fill_chains, fill_sum};
 use worked::{
     Routine, eighth, eleventh, fifth, first, fourth, ninth, second, seventh, sixth, tenth, third,
     twelfth, worked_out,
@@ -133,7 +133,7 @@ fn holds(
 ) -> anyhow::Result<bool> {
     let [n0, n1] = assignment;
     let value = condition_value(rt, routine, assignment)?;
-    let same = value == Ok(Number(if expected { 1 } else { 0 }));
+    let same = value == Ok(Number(i32::from(expected)));
     if !same {
         println!(rt; "under ({n0}, {n1}) the condition is not {expected}")?;
     }
@@ -174,30 +174,26 @@ fn fourth_rows(rt: &HostRuntime) -> anyhow::Result<bool> {
     )
 }
 
-// Whether filing skips in sequence, of this shape and in so many rows, answers what the rules give.
-fn files_skips(
-    rt: &HostRuntime,
-    shape: Shape,
-    rows: usize,
-    expected: Result<Filing, Refusal>,
-) -> anyhow::Result<bool> {
-    let mut commands = vec![in rt.alloc(); SKIP; rows]?;
-    fill(commands.as_mut_slice(), skips(shape));
-    let found = file(rt, 0, commands.as_slice(), &[], PLACES)?;
-    same_filing(rt, found, expected)
-}
-
-// C13: 1,023 rows are filed, 1,024 are refused.
+// C13: 1,023 rows are filed, and with one more skip they are refused.
 fn most_rows(rt: &HostRuntime) -> anyhow::Result<bool> {
-    let chains = Shape::Chains { inner: 15 };
-    let same = files_skips(rt, chains, 1023, filed(0, 1023, 0, 2556))?;
-    Ok(files_skips(rt, chains, 1024, Err(Refusal::Limits))? && same)
+    let mut commands = [SKIP; 1024];
+    fill_chains(&mut commands[0..1023], 15);
+    let most = file(rt, 0, &commands[0..1023], &[], PLACES)?;
+    let same = same_filing(rt, most, filed(0, 1023, 0, 2556))?;
+    let more = file(rt, 0, &commands, &[], PLACES)?;
+    Ok(same_filing(rt, more, Err(Refusal::Limits))? && same)
 }
 
 // C14: a depth of 64 is filed, one of 65 refused.
 fn most_depth(rt: &HostRuntime) -> anyhow::Result<bool> {
-    let same = files_skips(rt, comb(63), 127, filed(0, 127, 0, 316))?;
-    Ok(files_skips(rt, comb(64), 129, Err(Refusal::Parts))? && same)
+    let mut commands = [SKIP; 127];
+    fill_chains(&mut commands, 63);
+    let most = file(rt, 0, &commands, &[], PLACES)?;
+    let same = same_filing(rt, most, filed(0, 127, 0, 316))?;
+    let mut commands = [SKIP; 129];
+    fill_chains(&mut commands, 64);
+    let more = file(rt, 0, &commands, &[], PLACES)?;
+    Ok(same_filing(rt, more, Err(Refusal::Parts))? && same)
 }
 
 // C15: a term with 16 values waiting is filed, one with 17 refused.

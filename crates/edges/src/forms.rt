@@ -1,36 +1,63 @@
 // Passive forms against tables worked out by hand, and measure and passify at their limits.
 ghost use Rattle.std.specs.Prelude.{◌≡◌, ◌-◌, ◌^◌, ◌<◌, [], ◌∷◌, is_ok, length};
-ghost use Rattle.passive.specs.Layout.{passive_row};
+ghost use Rattle.passive.specs.Layout.{passive_row, joint_row, plain_row};
 
 use crate::rows::row;
 use kinds::numbered::{Name, Node};
 use kinds::numbers::Number;
 use kinds::refusals::Refusal;
 use passify::calls::{FormLengths, FormMeasures, measure, passify};
-use passive::rows::{PassiveRow, PassiveTag, PassiveTermRow};
-use routine::rows::Joint::{Catch, Choice, Sequence};
-use routine::rows::{CommandRow, Item, TermRow};
+use passive::rows::{PassiveRow, PassiveTermRow};
+use routine::rows::{CommandRow, TermRow};
 use routine::{command_row, term_row};
 use std::alloc::{AllocError, Global};
 use std::test::Fail;
+
+// Expected rows have numbers for tags: passify makes its rows by what PassiveRow offers, and would be compared with itself by that.
+fn passive(tag: u32, f: u16, from: u32, count: u32, left: u32) -> PassiveRow
+    ensures { result ≡ passive_row tag (record { 0 = f }) from count left }
+{
+    PassiveRow {
+        tag,
+        f: Name(f),
+        from,
+        count,
+        left,
+        ..PassiveRow::BLANK
+    }
+}
 
 // let f be the one term row `from`
 fn let_row(f: u16, from: u32) -> PassiveRow
     ensures { result ≡ passive_row 9 (record { 0 = f }) from 1 0 }
 {
-    PassiveRow::with_term(PassiveTag::Let, Name(f), from, 1)
+    passive(9, f, from, 1, 0)
+}
+
+// two parts joined, the left of which ends at row `left`
+fn joined(tag: u32, left: u32) -> PassiveRow
+    ensures { result ≡ joint_row tag left }
+{
+    passive(tag, 0, 0, 0, left)
+}
+
+// a row that is its tag alone
+fn plain(tag: u32) -> PassiveRow
+    ensures { result ≡ plain_row tag }
+{
+    passive(tag, 0, 0, 0, 0)
 }
 
 fn literal(number: u16) -> PassiveTermRow
     ensures { result ≡ record { tag = 1; number = number } }
 {
-    PassiveTermRow::from(Item::Literal(number))
+    PassiveTermRow { tag: 1, number }
 }
 
 fn name(number: u16) -> PassiveTermRow
     ensures { result ≡ record { tag = 2; number = number } }
 {
-    PassiveTermRow::from(Item::Reference(Name(number)))
+    PassiveTermRow { tag: 2, number }
 }
 
 // What stands in a table before a call.
@@ -101,11 +128,11 @@ fn one_part_sets(rt: HostRuntime) -> Result<(), Fail> {
     let rows = [
         let_row(1, 0),
         let_row(2, 1),
-        PassiveRow::joining(Sequence, 0),
-        PassiveRow::plain(PassiveTag::Skip),
+        joined(6, 0),
+        plain(4),
         let_row(2, 2),
-        PassiveRow::joining(Sequence, 3),
-        PassiveRow::joining(Choice, 2),
+        joined(6, 3),
+        joined(7, 2),
     ];
     same_form(
         rt.alloc(),
@@ -129,14 +156,14 @@ fn handler_sets(rt: HostRuntime) -> Result<(), Fail> {
     ];
     let rows = [
         let_row(1, 0),
-        PassiveRow::plain(PassiveTag::Raise),
-        PassiveRow::joining(Choice, 0),
+        plain(5),
+        joined(7, 0),
         let_row(3, 1),
-        PassiveRow::joining(Sequence, 2),
+        joined(6, 2),
         let_row(2, 2),
         let_row(3, 3),
-        PassiveRow::joining(Sequence, 5),
-        PassiveRow::joining(Catch, 4),
+        joined(6, 5),
+        joined(8, 4),
     ];
     let terms = [term_row!(literal 1), term_row!(literal 2)];
     same_form(
@@ -169,28 +196,28 @@ fn two_merges(rt: HostRuntime) -> Result<(), Fail> {
     ];
     let rows = [
         let_row(1, 0),
-        PassiveRow::plain(PassiveTag::Skip),
-        PassiveRow::plain(PassiveTag::Raise),
-        PassiveRow::joining(Choice, 1),
-        PassiveRow::joining(Sequence, 0),
+        plain(4),
+        plain(5),
+        joined(7, 1),
+        joined(6, 0),
         let_row(3, 1),
-        PassiveRow::joining(Sequence, 4),
+        joined(6, 4),
         let_row(4, 2),
-        PassiveRow::plain(PassiveTag::Raise),
-        PassiveRow::joining(Sequence, 7),
-        PassiveRow::joining(Catch, 6),
+        plain(5),
+        joined(6, 7),
+        joined(8, 6),
         let_row(2, 3),
-        PassiveRow::plain(PassiveTag::Skip),
-        PassiveRow::plain(PassiveTag::Raise),
-        PassiveRow::joining(Choice, 12),
-        PassiveRow::joining(Sequence, 11),
+        plain(4),
+        plain(5),
+        joined(7, 12),
+        joined(6, 11),
         let_row(3, 4),
-        PassiveRow::joining(Sequence, 15),
+        joined(6, 15),
         let_row(4, 5),
-        PassiveRow::plain(PassiveTag::Raise),
-        PassiveRow::joining(Sequence, 18),
-        PassiveRow::joining(Catch, 17),
-        PassiveRow::joining(Choice, 10),
+        plain(5),
+        joined(6, 18),
+        joined(8, 17),
+        joined(7, 10),
     ];
     let passive_terms = [literal(1), name(1), name(1), literal(2), name(2), name(2)];
     same_form(
@@ -216,11 +243,7 @@ fn stops(rt: HostRuntime) -> Result<(), Fail> {
         0,
         &commands,
         &[term_row!(literal 0)],
-        &[
-            PassiveRow::plain(PassiveTag::Raise),
-            PassiveRow::plain(PassiveTag::Stop),
-            PassiveRow::joining(Sequence, 0),
-        ],
+        &[plain(5), plain(10), joined(6, 0)],
         &[],
     )
 }

@@ -114,7 +114,7 @@ fn changed_in_place(rt: HostRuntime) -> Result<(), Fail> {
             .is_ok()
     );
     let before = register.read(0);
-    commands[0].tag = 2;
+    commands[0] = command_row!(assume term 0 + 1);
     assert!(rt;
         register
             .file(&commands, &terms, &mut rows, &mut out)

@@ -1,17 +1,18 @@
 // The check at its limits.
-ghost use Rattle.std.specs.Prelude.{◌≡◌, ◌^◌, ◌<◌, [], ◌∷◌, cond, length, ◌==◌};
+ghost use Rattle.std.specs.Prelude.{◌≡◌, ◌^◌, ◌<◌, [], ◌∷◌, length};
 ghost use Rattle.routine.specs.Decoding.{decode, verdict};
-ghost use Rattle.worked.specs.Tables.{assign_row};
+ghost use Rattle.worked.specs.Tables.{assign_row, literal_row, operation_row};
 
 use crate::rows::{item, row};
 use kinds::flags::Flag;
 use kinds::kind::Kind;
 use kinds::numbers::Number;
 use kinds::refusals::Refusal;
+use passify::calls::{FormMeasures, measure};
 use routine::checks::check;
-use routine::command_row;
-use routine::rows::{CommandRow, TermRow};
-use shapes::{SKIP, Shape, fill, fill_sum, skips};
+use routine::rows::TermRow;
+use routine::{command_row, term_row};
+use shapes::{SKIP, fill_chains, fill_sum};
 use std::test::Fail;
 
 // One command row over the terms: a set of v0.
@@ -22,23 +23,15 @@ fn set_to(v: u32, terms: &[TermRow]) -> Result<(), Refusal>
     check::<Number>(v, &[command_row!(assign 0, term 0 + count)], terms)
 }
 
-// The row with 7 in each field that its tag does not read: it is a skip or joins two parts.
-fn with_sevens(skip_or_joint: CommandRow) -> CommandRow
-    ensures { result ≡ record { tag = skip_or_joint.tag; target = 7; from = 7; count = 7; left = cond (skip_or_joint.tag == 4) 7 skip_or_joint.left } }
+// An operation over two zeros.
+fn over_zeros(operation: u16) -> [TermRow; 3]
+    ensures { result ≡ literal_row 0 ∷ literal_row 0 ∷ operation_row operation ∷ [] }
 {
-    let CommandRow { tag, left, .. } = skip_or_joint;
-    let left = if tag == 4 { 7 } else { left };
-    row(tag, 7, 7, 7, left)
-}
-
-// Chains of `inner + 1` skips each, in one chain, with 7 in each field that no tag reads.
-fn fill_chains(rows: &mut [CommandRow], inner: u8)
-    ensures { length rows.new ≡ length rows.old }
-{
-    fill(rows, skips(Shape::Chains { inner }));
-    for row in rows.iter_mut() {
-        *row = with_sevens(*row);
-    }
+    [
+        term_row!(literal 0),
+        term_row!(literal 0),
+        term_row!(operation operation),
+    ]
 }
 
 #[test]
@@ -55,19 +48,25 @@ fn tables(rt: HostRuntime) -> Result<(), Fail> {
         check::<Number>(0, &skip, terms.as_slice()),
         Err(Refusal::Limits)
     );
-    let mut rows = [SKIP; 1023];
-    fill_chains(&mut rows, 15);
-    assert_eq!(rt; rows.len(), 1023);
-    assert_eq!(rt; check::<Number>(0, &rows, &[]), Ok(()));
     let mut rows = [SKIP; 1024];
-    fill_chains(&mut rows, 15);
+    fill_chains(&mut rows[0..1023], 15);
+    assert_eq!(rt; check::<Number>(0, &rows[0..1023], &[]), Ok(()));
+    assert_eq!(rt;
+        measure::<Number>(0, &rows[0..1023], &[]),
+        Ok(FormMeasures {
+            names: 0,
+            rows: 1023,
+            terms: 0,
+            nodes: 2556,
+        })
+    );
     assert_eq!(rt; check::<Number>(0, &rows, &[]), Err(Refusal::Limits));
     Ok(())
 }
 
 #[test]
 fn tags_and_targets(rt: HostRuntime) {
-    let one = [item(1, 65535)];
+    let one = [term_row!(literal 65535)];
     assert_eq!(rt;
         check::<Number>(1, &[row(0, 0, 0, 1, 0)], &one),
         Err(Refusal::Tag)
@@ -108,36 +107,40 @@ fn tags_and_targets(rt: HostRuntime) {
 
 #[test]
 fn term_rows(rt: HostRuntime) {
-    assert_eq!(rt; set_to(1, &[item(2, 0)]), Ok(()));
-    assert_eq!(rt; set_to(1, &[item(2, 1)]), Err(Refusal::Term));
+    assert_eq!(rt; set_to(1, &[term_row!(variable 0)]), Ok(()));
+    assert_eq!(rt; set_to(1, &[term_row!(variable 1)]), Err(Refusal::Term));
     assert_eq!(rt; set_to(1, &[item(0, 0)]), Err(Refusal::Term));
     assert_eq!(rt; set_to(1, &[item(4, 0)]), Err(Refusal::Term));
-    assert_eq!(rt; set_to(1, &[item(1, 0), item(1, 0), item(3, 4)]), Ok(()));
+    assert_eq!(rt; set_to(1, &over_zeros(4)), Ok(()));
+    assert_eq!(rt; set_to(1, &over_zeros(5)), Err(Refusal::Term));
     assert_eq!(rt;
-        set_to(1, &[item(1, 0), item(1, 0), item(3, 5)]),
+        set_to(1, &[term_row!(literal 0), term_row!(operation 0)]),
         Err(Refusal::Term)
     );
-    assert_eq!(rt; set_to(1, &[item(1, 0), item(3, 0)]), Err(Refusal::Term));
-    assert_eq!(rt; set_to(1, &[item(1, 0), item(1, 0)]), Err(Refusal::Term));
+    assert_eq!(rt;
+        set_to(1, &[term_row!(literal 0), term_row!(literal 0)]),
+        Err(Refusal::Term)
+    );
     assert_eq!(rt; set_to(1, &[]), Err(Refusal::Term));
 }
 
 #[test]
 fn operations_of_flags(rt: HostRuntime) {
     let commands = [command_row!(assert term 0 + 3)];
+    assert_eq!(rt; check::<Flag>(0, &commands, &over_zeros(15)), Ok(()));
     assert_eq!(rt;
-        check::<Flag>(0, &commands, &[item(1, 0), item(1, 0), item(3, 15)]),
-        Ok(())
-    );
-    assert_eq!(rt;
-        check::<Flag>(0, &commands, &[item(1, 0), item(1, 0), item(3, 16)]),
+        check::<Flag>(0, &commands, &over_zeros(16)),
         Err(Refusal::Term)
     );
 }
 
 #[test]
 fn terms_in_their_table(rt: HostRuntime) {
-    let terms = [item(1, 0), item(2, 0), item(3, 0)];
+    let terms = [
+        term_row!(literal 0),
+        term_row!(variable 0),
+        term_row!(operation 0),
+    ];
     assert_eq!(rt;
         check::<Number>(1, &[command_row!(assert term 0 + 3)], &terms),
         Ok(())
@@ -170,10 +173,10 @@ fn terms_in_their_table(rt: HostRuntime) {
 
 #[test]
 fn waiting_values(rt: HostRuntime) {
-    let mut sum = [item(1, 1); 31];
+    let mut sum = [term_row!(literal 1); 31];
     fill_sum(&mut sum);
     assert_eq!(rt; set_to(1, &sum), Ok(()));
-    let mut sum = [item(1, 1); 33];
+    let mut sum = [term_row!(literal 1); 33];
     fill_sum(&mut sum);
     assert_eq!(rt; set_to(1, &sum), Err(Refusal::Term));
 }

@@ -1,9 +1,10 @@
 -- Routines of a wanted shape, row by row. A command's rows are those of its left part, those of its right part, and then its own; so a
 -- joined row i has its right part before it, ending at row i - 1, and it is enough to say where its left part ends.
-use Rattle.std.specs.Prelude.{ℕ, ◌+◌, ◌-◌, ◌*◌, ◌/◌, ◌%◌, cond, List, [], ◌∷◌, codes, Some, None, Option, ◌==◌, nat_le, nat_lt}
+use Rattle.std.specs.Prelude.{ℕ, ◌+◌, ◌-◌, ◌*◌, ◌/◌, ◌%◌, cond, List, [], ◌∷◌, codes, Some, None, Option, is_some, ◌==◌, nat_le, nat_lt}
 use Rattle.routine.specs.declared.rows.TermRow.{TermRow}
 use Rattle.routine.specs.declared.rows.CommandRow.{CommandRow}
 use Rattle.routine.specs.declared.rows.Joint.TheVariants.{Sequence}
+use Rattle.routine.specs.Rows.{tag_of, joint_of}
 use Rattle.routine.specs.Standing.{joint_tag}
 use Rattle.shapes.specs.declared.Shape.{Shape}
 use Rattle.shapes.specs.declared.Shape.TheVariants.{Combs, Chains, Tree}
@@ -82,7 +83,7 @@ target_at variables i = cond (variables == 0) 0 (i % variables)
 abbrev pub row_of : Pattern → ℕ → Option ℕ → CommandRow
 row_of p i None =
     record { tag = p.single.tag; target = target_at p.variables i; from = p.single.from; count = p.single.count; left = p.single.left }
-row_of p i (Some left) = joint_command (joint_tag p.joint) left
+row_of p i (Some left) = joint_command p.joint left
 
 -- row i of a routine
 abbrev pub row_at : Pattern → ℕ → CommandRow
@@ -90,7 +91,16 @@ row_at p i = row_of p i (left_of p.shape i)
 
 -- skips in sequence
 abbrev pub skips : Shape → Pattern
-skips shape = record { shape = shape; joint = Sequence; single = skip_row; variables = 0 }
+skips shape = record { shape = shape; joint = joint_tag Sequence; single = skip_row; variables = 0 }
+
+-- a skip, or a row that joins two parts, with 7 in each field that its tag does not read
+abbrev pub with_sevens : CommandRow → CommandRow
+with_sevens row =
+    record { tag = row.tag; target = 7; from = 7; count = 7; left = cond (is_some (joint_of (tag_of row.tag))) row.left 7 }
+
+-- row i of chains of skips
+abbrev pub chain_row : ℕ → ℕ → CommandRow
+chain_row inner i = with_sevens (row_at (skips (Chains inner)) i)
 
 -- row k of a term of n rows: literals 1, the middle row the last of them, and then additions
 abbrev pub sum_row : ℕ → ℕ → TermRow

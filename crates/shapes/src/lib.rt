@@ -5,7 +5,7 @@
 ghost use Rattle.std.specs.Prelude.{◌≡◌, Some, ℕ, ◌%◌, ◌<◌, length, slice_index_or};
 ghost use Rattle.shapes.specs.declared.Shape.TheVariants.{Combs};
 ghost use Rattle.worked.specs.Tables.{skip_row, literal_row};
-ghost use Rattle.shapes.specs.Shapes.{in_half, tree_rows, tree_left, combs_left, chains_left, left_of, shape_name, target_at, row_at, skips, sum_row};
+ghost use Rattle.shapes.specs.Shapes.{in_half, tree_rows, tree_left, combs_left, chains_left, left_of, shape_name, target_at, row_at, skips, with_sevens, chain_row, sum_row};
 
 use kinds::numbers::PLUS;
 use routine::rows::{CommandRow, Joint, TermRow};
@@ -41,7 +41,8 @@ pub fn comb(joined: u8) -> Shape
 #[derive(Clone, Copy)]
 pub struct Pattern {
     pub shape: Shape,
-    pub joint: Joint,
+    // The tag of the rows that join.
+    pub joint: u32,
     pub single: CommandRow,
     pub variables: u32,
 }
@@ -54,7 +55,7 @@ pub fn skips(shape: Shape) -> Pattern
 {
     Pattern {
         shape,
-        joint: Joint::Sequence,
+        joint: u32::from(Joint::Sequence),
         single: SKIP,
         variables: 0,
     }
@@ -180,7 +181,7 @@ impl Pattern {
                 ..self.single
             },
             Some(left) => CommandRow {
-                tag: u32::from(self.joint),
+                tag: self.joint,
                 left,
                 ..SKIP
             },
@@ -195,6 +196,31 @@ pub fn fill(rows: &mut [CommandRow], pattern: Pattern)
 {
     for (i, row) in rows.iter_mut().enumerate() {
         *row = pattern.row((i % 65536) as u16);
+    }
+}
+
+// A skip, or a row that joins two parts, with 7 in each field that its tag does not read.
+fn with_sevens(row: CommandRow) -> CommandRow
+    ensures { result ≡ with_sevens row }
+{
+    CommandRow {
+        tag: row.tag,
+        target: 7,
+        from: 7,
+        count: 7,
+        left: if row.joint().is_some() { row.left } else { 7 },
+    }
+}
+
+// Writes into the table chains of `inner + 1` skips each, in one chain, with 7 in each field that no tag reads. Behind 65,536 rows the same
+// come again.
+pub fn fill_chains(rows: &mut [CommandRow], inner: u8)
+    ensures length { length rows.new ≡ length rows.old }
+    ensures rows { (k : ℕ) → k < length rows.old → slice_index_or rows.new k skip_row ≡ chain_row inner (k % 65536) }
+{
+    let pattern = skips(Shape::Chains { inner });
+    for (i, row) in rows.iter_mut().enumerate() {
+        *row = with_sevens(pattern.row((i % 65536) as u16));
     }
 }
 
