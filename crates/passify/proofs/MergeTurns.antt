@@ -1,7 +1,8 @@
 -- The loop that merges two maps, turn by turn.
-use Rattle.std.proofs.Common.{◌≡◌, ℕ, ◌+◌, ◌<◌, ◌≤◌, min, Bool, true, false, not, eqb, List, [], ◌∷◌, ◌++◌, length, get_or, drop, Some, sym, refl, ap, ◌∙◌, append_assoc, append-nil, zero-add, arith, length-append, length-drop, false-eqb}
-use Rattle.std.proofs.lemmas.List.{drop_more}
-use Rattle.std.proofs.lemmas.Bool.{eq-eqb, ne_eqb, eqb-true}
+use Rattle.std.proofs.Common.{◌≡◌, ℕ, ◌+◌, ◌<◌, ◌≤◌, min, Bool, true, false, cond, not, eqb, nat_le, set, List, [], ◌∷◌, ◌++◌, length, get_or, take, drop, Some, sym, refl, ap, ◌∙◌, append_assoc, append-nil, zero-add, arith, length-append, length-drop, false-eqb}
+use Rattle.std.proofs.lemmas.List.{drop_more, drop_all, get_or-take}
+use Rattle.std.proofs.lemmas.Bool.{eq-eqb, ne_eqb, eqb-true, leb-true, leb-false}
+use Rattle.std.proofs.Math.Seq.{set-append_seam}
 use Rattle.kinds.specs.declared.numbered.Name.{Name}
 use Rattle.passive.specs.Passive.{name, Merged, agreeing, differing, merge_names}
 use Rattle.passify.proofs.Sizes.{merge_up}
@@ -103,6 +104,68 @@ module _ (ks bs : List Name) where
         renamed = omega (arith, ap (λ (m : Merged). length m.left) end, s.renamed);
       }
 
+  -- the map of fewer names
+  abbrev pub shorter : List Name
+  shorter = cond (nat_le (length ks) (length bs)) ks bs
+
+  chosen_long : (b : Bool) → nat_le (length ks) (length bs) ≡ b → length (cond b ks bs) ≡ min (length ks) (length bs)
+  chosen_long true e = omega (arith, leb-true _ _ e)
+  chosen_long false e = omega (arith, leb-false _ _ e)
+
+  chosen_at : (b : Bool) (i : ℕ) → (at ks i).0 ≡ (at bs i).0 → at (cond b ks bs) i ≡ at ks i
+  chosen_at true i e = refl
+  chosen_at false i e = ap (λ n. record { 0 = n }) (sym e)
+
+  -- its names below i are merged into ns, and it has those from i on still
+  pub record Turned (both : List Name) (k d start i : ℕ) : Type 0 where
+    pub ns : List Name
+    pub sofar : Sofar ns k d start i
+    pub holds : both ≡ ns ++ drop i shorter
+
+  pub turned_begun : (k : ℕ) → Turned shorter k 0 k 0
+  turned_begun k = record { ns = []; sofar = begun k; holds = refl }
+
+  module _ (both : List Name) (k d start i : ℕ) (hk : i < length ks) (hb : i < length bs) (t : Turned both k d start i) where
+    shorter_long : length shorter ≡ min (length ks) (length bs)
+    shorter_long = chosen_long (nat_le (length ks) (length bs)) refl
+
+    split_holds : both ≡ t.ns ++ at shorter i ∷ drop (i + 1) shorter
+    split_holds = t.holds ∙ ap (λ l. t.ns ++ l) (drop_more shorter i (name 0) (omega (arith, shorter_long)))
+
+    pub turned_room : ((at ks i).0 ≡ (at bs i).0 → ⊥) → k < (all start).next
+    turned_room e = room t.ns k d start i hk hb t.sofar e
+
+    pub turned_same : (at ks i).0 ≡ (at bs i).0 → Turned both k d start (i + 1)
+    turned_same e = record {
+      ns = t.ns ++ at ks i ∷ [];
+      sofar = same t.ns k d start i hk hb t.sofar e;
+      holds =
+          split_holds
+          ∙ (ap (λ n. t.ns ++ n ∷ drop (i + 1) shorter) (chosen_at (nat_le (length ks) (length bs)) i e)
+          ∙ sym (append_assoc t.ns (at ks i ∷ []) (drop (i + 1) shorter)));
+    }
+
+    pub turned_apart : ((at ks i).0 ≡ (at bs i).0 → ⊥) → Turned (set both i (name k)) (k + 1) (d + 1) start (i + 1)
+    turned_apart e = record {
+      ns = t.ns ++ name k ∷ [];
+      sofar = apart t.ns k d start i hk hb t.sofar e;
+      holds =
+          ap (λ l. set l i (name k)) split_holds
+          ∙ (ap (λ n. set (t.ns ++ at shorter i ∷ drop (i + 1) shorter) n (name k)) (sym t.sofar.long)
+          ∙ (set-append_seam t.ns (at shorter i) (drop (i + 1) shorter) (name k)
+          ∙ sym (append_assoc t.ns (name k ∷ []) (drop (i + 1) shorter))));
+    }
+
+  pub turned_done : (both : List Name) (k d start i : ℕ) → i ≡ min (length ks) (length bs) → Turned both k d start i → Done both k d start
+  turned_done both k d start i e t =
+      let end = done t.ns k d start i e t.sofar in
+      let rest : drop i shorter ≡ [] = drop_all i shorter (omega (arith, chosen_long (nat_le (length ks) (length bs)) refl, e)) in
+      record {
+        names = t.holds ∙ (ap (λ l. t.ns ++ l) rest ∙ (append-nil t.ns ∙ end.names));
+        next = end.next;
+        renamed = end.renamed;
+      }
+
 -- the names x and y of a turn stand at i in the two maps
 
 pub apart_names : (x y a b : Name) → false ≡ eqb x.0 y.0 → x ≡ a → y ≡ b → a.0 ≡ b.0 → ⊥
@@ -118,3 +181,17 @@ not_alike false h = refl
 pub alike : (b : Bool) → false ≡ not b → true ≡ b
 alike true h = refl
 alike false h = sym h
+
+-- the pair of turn i, read from slices of the two maps, of which the first is cut at n
+module _ (ks bs xs ys : List Name) (n i : ℕ) (first : xs ≡ ks) (second : ys ≡ bs) (h : i < n) where
+  x_at : at (take n xs) i ≡ at ks i
+  x_at = get_or-take n xs i (name 0) h ∙ ap (λ l. at l i) first
+
+  y_at : at ys i ≡ at bs i
+  y_at = ap (λ l. at l i) second
+
+  pub pair_apart : true ≡ not (eqb (at (take n xs) i).0 (at ys i).0) → (at ks i).0 ≡ (at bs i).0 → ⊥
+  pair_apart t = apart_names (at (take n xs) i) (at ys i) (at ks i) (at bs i) (not_alike _ t) x_at y_at
+
+  pub pair_same : false ≡ not (eqb (at (take n xs) i).0 (at ys i).0) → (at ks i).0 ≡ (at bs i).0
+  pair_same t = same_names (at (take n xs) i) (at ys i) (at ks i) (at bs i) (alike _ t) x_at y_at

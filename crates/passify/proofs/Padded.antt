@@ -1,55 +1,59 @@
--- The array of a name map after a name is pushed or changed.
+-- An array that holds a list, after an item is pushed or changed.
 use Rattle.std.proofs.Common.{◌≡◌, ℕ, zero, suc, ◌+◌, ◌<◌, ◌≤◌, List, [], ◌∷◌, ◌++◌, length, take, set, sym, refl, ap, ◌∙◌, add-zero, zero-add, add-one, arith}
 use Rattle.std.proofs.lemmas.List.{length-take-le, take_more_set}
 use Rattle.std.proofs.Math.Seq.{take-set-lt}
-use Rattle.kinds.specs.declared.numbered.Name.{Name}
-use Rattle.routine.specs.Limits.{most_variables}
 use Rattle.passive.specs.Passive.{name, names_from}
 use Rattle.passify.specs.Padding.{padded, Fills}
 use Rattle.passify.specs.PaddingLaws.{padded_length}
 
-padded_push : (n : ℕ) (xs : List Name) (f : Name) → length xs < n → padded n (xs ++ f ∷ []) ≡ set (padded n xs) (length xs) f
-padded_push zero xs f h = absurd (omega arith)
-padded_push (suc n) [] f h = refl
-padded_push (suc n) (x ∷ xs) f h = ap (λ l. x ∷ l) (padded_push n xs f (omega arith))
+module _ {A : Type 0} (blank : A) where
+  padded_push : (n : ℕ) (xs : List A) (x : A) → length xs < n → padded blank n (xs ++ x ∷ []) ≡ set (padded blank n xs) (length xs) x
+  padded_push zero xs x h = absurd (omega arith)
+  padded_push (suc n) [] x h = refl
+  padded_push (suc n) (y ∷ xs) x h = ap (λ l. y ∷ l) (padded_push n xs x (omega arith))
 
-padded_set : (n : ℕ) (xs : List Name) (i : ℕ) (f : Name) → length xs ≤ n → i < length xs → padded n (set xs i f) ≡ set (padded n xs) i f
-padded_set zero xs i f g h = absurd (omega arith)
-padded_set (suc n) [] i f g h = absurd (omega arith)
-padded_set (suc n) (x ∷ xs) zero f g h = refl
-padded_set (suc n) (x ∷ xs) (suc i) f g h = ap (λ l. x ∷ l) (padded_set n xs i f (omega arith) (omega arith))
+  padded_set : (n : ℕ) (xs : List A) (i : ℕ) (x : A) → length xs ≤ n → i < length xs → padded blank n (set xs i x) ≡ set (padded blank n xs) i x
+  padded_set zero xs i x g h = absurd (omega arith)
+  padded_set (suc n) [] i x g h = absurd (omega arith)
+  padded_set (suc n) (y ∷ xs) zero x g h = refl
+  padded_set (suc n) (y ∷ xs) (suc i) x g h = ap (λ l. y ∷ l) (padded_set n xs i x (omega arith) (omega arith))
 
-module _ (names : List Name) (len : ℕ) (h : Fills names len) where
-  pub long : length names ≡ most_variables
-  long = ap length h.rest ∙ padded_length most_variables (take len names)
+  module _ (most : ℕ) (items : List A) (len : ℕ) (h : Fills blank most items len) where
+    long : length items ≡ most
+    long = ap length h.rest ∙ padded_length blank most (take len items)
 
-  taken : length (take len names) ≡ len
-  taken = length-take-le len names (omega (arith, h.few, long))
+    taken : length (take len items) ≡ len
+    taken = length-take-le len items (omega (arith, h.few, long))
 
-  pub fills_push : (f : Name) → len < most_variables → Fills (set names len f) (len + 1)
-  fills_push f room = record {
-    few = omega arith;
-    rest =
-        ap (λ l. set l len f) h.rest
-        ∙ (ap (λ n. set (padded most_variables (take len names)) n f) (sym taken)
-        ∙ (sym (padded_push most_variables (take len names) f (omega (arith, taken)))
-        ∙ ap (padded most_variables) (sym (take_more_set names len f (omega (arith, long))))));
-  }
-
-  module _ (x : ℕ) (f : Name) (below : x < len) where
-    pub names_set : take len (set names x f) ≡ set (take len names) x f
-    names_set = take-set-lt len names x f below
-
-    pub fills_set : Fills (set names x f) len
-    fills_set = record {
-      few = h.few;
+    pub fills_push : (x : A) → len < most → Fills blank most (set items len x) (len + 1)
+    fills_push x room = record {
+      few = omega arith;
       rest =
-          ap (λ l. set l x f) h.rest
-          ∙ (sym (padded_set most_variables (take len names) x f (omega (arith, taken, h.few)) (omega (arith, taken))) ∙ ap (padded most_variables) (sym names_set));
+          ap (λ l. set l len x) h.rest
+          ∙ (ap (λ n. set (padded blank most (take len items)) n x) (sym taken)
+          ∙ (sym (padded_push most (take len items) x (omega (arith, taken)))
+          ∙ ap (padded blank most) (sym (take_more_set items len x (omega (arith, long))))));
     }
 
-  pub room_left : (map : List Name) → take len names ≡ map → length map < most_variables → len < most_variables
-  room_left map e h = omega (arith, taken, ap length e)
+    module _ (i : ℕ) (x : A) (below : i < len) where
+      pub items_set : take len (set items i x) ≡ set (take len items) i x
+      items_set = take-set-lt len items i x below
+
+      pub fills_set : Fills blank most (set items i x) len
+      fills_set = record {
+        few = h.few;
+        rest =
+            ap (λ l. set l i x) h.rest
+            ∙ (sym (padded_set most (take len items) i x (omega (arith, taken, h.few)) (omega (arith, taken))) ∙ ap (padded blank most) (sym items_set));
+      }
+
+    module _ (list : List A) (is : take len items ≡ list) where
+      -- a place in the list is one in use
+      pub within : (i : ℕ) → i < length list → i < len
+      within i h = omega (arith, taken, ap length is)
+
+      pub room_left : length list < most → len < most
+      room_left h = omega (arith, taken, ap length is)
 
 -- the names from k on, one more
 

@@ -21,6 +21,14 @@ at cs i = get_or cs i no_row
 abbrev pub joint_at : List CommandRow → ℕ → Option Joint
 joint_at cs i = joint_of (tag_of (at cs i).tag)
 
+-- from maps that are the same
+module _ (cs : List CommandRow) (ts : List TermRow) (i k : ℕ) {o o' : Names} (is : o ≡ o') where
+  pub measurable_same : Measurable cs ts i o k → Measurable cs ts i o' k
+  measurable_same h = subst (λ o. Measurable cs ts i o k) is h
+
+  pub measures_same : {s : Measured} → Measures cs ts i o k s → Measures cs ts i o' k s
+  measures_same {s = s} h = subst (λ o. Measures cs ts i o k s) is h
+
 of_single : (c : Single) → joint_of (tag_of (single_tag c)) ≡ None
 of_single (assert t) = refl
 of_single (assume t) = refl

@@ -42,7 +42,7 @@ fn measure_checked(v: u32, commands: &[CommandRow]) -> Measured
     measure_row(
         commands,
         commands.len() as u32 - 1,
-        Some(NameMap::first(v)),
+        &Some(NameMap::first(v)),
         v,
     )
 }
@@ -98,7 +98,7 @@ pub fn passify<K: Kind>(
         commands,
         terms,
         commands.len() as u32 - 1,
-        Some(NameMap::first(v)),
+        &Some(NameMap::first(v)),
         v,
         rows,
         out,

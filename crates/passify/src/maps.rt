@@ -1,5 +1,5 @@
 // Maps from variables to names, and merging them.
-ghost use Rattle.std.specs.Prelude.{◌≡◌, ◌^◌, ◌<◌, ◌≤◌, [], ◌∷◌, ◌++◌, Some, length, slice_index_or, slice_set};
+ghost use Rattle.std.specs.Prelude.{◌≡◌, ◌^◌, ◌<◌, ◌≤◌, cond, [], ◌∷◌, ◌++◌, Some, length, nat_le, slice_index_or, slice_set};
 ghost use Rattle.routine.specs.Limits.{most_variables};
 ghost use Rattle.passive.specs.Passive.{name, names_from, merge};
 ghost use Rattle.passify.specs.Merging.{Merges};
@@ -12,13 +12,14 @@ use std::marker::Model;
 #[derive(Clone, Copy)]
 pub struct NameMap {
     names: [Name; MOST_VARIABLES],
-    len: usize,
+    len: u16,
 }
 
 impl Model for NameMap {
     ghost use Rattle.std.specs.Prelude.{List, take, length};
     ghost use Rattle.kinds.specs.declared.numbered.Name.{Name};
     ghost use Rattle.routine.specs.Limits.{most_variables};
+    ghost use Rattle.passive.specs.Passive.{name};
     ghost use Rattle.passify.specs.Padding.{padded, Fills};
     ghost use Rattle.passify.specs.PaddingLaws.{unpadded};
 
@@ -26,11 +27,11 @@ impl Model for NameMap {
 
     ghost view = { λ m. take m.len m.names };
 
-    ghost invariant = { λ m. Fills m.names m.len };
+    ghost invariant = { λ m. Fills (name 0) most_variables m.names m.len };
 
-    ghost inverse = { λ names. record { names = padded most_variables names; len = length names } };
+    ghost inverse = { λ names. record { names = padded (name 0) most_variables names; len = length names } };
 
-    ghost inverse_ok = { λ m h i. record { names = (unpadded m.names m.len h).same_names i; len = (unpadded m.names m.len h).same_len i } };
+    ghost inverse_ok = { λ m h i. let u = unpadded (name 0) most_variables m.names m.len h in record { names = u.same_items i; len = u.same_len i } };
 }
 
 impl NameMap {
@@ -49,8 +50,16 @@ impl NameMap {
         requires { length self.old < most_variables }
         ensures { self.new ≡ self.old ++ f ∷ [] }
     {
-        self.names[self.len] = f;
+        self.names[self.len as usize] = f;
         self.len += 1;
+    }
+
+    // Gives a variable another name.
+    fn set(&mut self, x: u32, f: Name)
+        requires { x < length self.old }
+        ensures { self.new ≡ slice_set self.old x f }
+    {
+        self.names[x as usize] = f;
     }
 
     // Variable i starts with name i.
@@ -70,7 +79,7 @@ impl NameMap {
         ensures names { result.now ≡ self.now }
         ensures few { length result.now ≤ most_variables }
     {
-        &self.names[..self.len]
+        &self.names[..self.len as usize]
     }
 
     // The name of a variable; 0 for one past the last.
@@ -88,8 +97,8 @@ impl NameMap {
         ensures { result ≡ slice_set self x f }
     {
         let mut map = self;
-        if (x as usize) < map.len {
-            map.names[x as usize] = f;
+        if (x as usize) < map.as_slice().len() {
+            map.set(x, f);
         }
         map
     }
@@ -103,24 +112,35 @@ pub struct Merging {
     pub renamed: u32,
 }
 
+// The one of fewer names; the first, where they have as many.
+fn shorter(a: &NameMap, b: &NameMap) -> NameMap
+    ensures { result ≡ cond (nat_le (length a.now) (length b.now)) a.now b.now }
+{
+    if a.as_slice().len() <= b.as_slice().len() {
+        *a
+    } else {
+        *b
+    }
+}
+
 fn merge_present(a: &NameMap, b: &NameMap, next: u32) -> Merging
     requires { (merge (Some a.now) (Some b.now) next).next ≤ 2 ^ 16 }
     ensures { Merges result (merge (Some a.now) (Some b.now) next) }
 {
-    let mut names = NameMap::new();
+    // It has the names on which the two agree.
+    let mut both = shorter(a, b);
+    let (xs, ys) = (a.as_slice(), b.as_slice());
     let mut k = next;
     let mut renamed = 0;
-    for (x, y) in a.as_slice().iter().zip(b.as_slice()) {
-        if x == y {
-            names.push(*x);
-        } else {
-            names.push(Name(k as u16));
+    for (i, x) in xs[..xs.len().min(ys.len())].iter().enumerate() {
+        if *x != ys[i] {
+            both.set(i as u32, Name(k as u16));
             k += 1;
             renamed += 1;
         }
     }
     Merging {
-        names: Some(names),
+        names: Some(both),
         next: k,
         renamed,
     }

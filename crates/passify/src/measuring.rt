@@ -1,5 +1,6 @@
 // Measuring: what the passive form of a command takes, and the maps that it ends with.
 ghost use Rattle.std.specs.Prelude.{◌≡◌, ◌≤◌, List, Some, None};
+ghost use Rattle.kinds.specs.declared.numbered.Name.{Name};
 ghost use Rattle.routine.specs.Limits.{most_variables};
 ghost use Rattle.passive.specs.Passive.{passify_single, entry as entry_map};
 ghost use Rattle.passive.specs.Outcomes.{joint_nodes as nodes_of_joint};
@@ -49,36 +50,36 @@ fn measure_normal(m: NameMap, next: u32, terms: u32, nodes: u32) -> Measured
     }
 }
 
-pub fn measure_single(row: CommandRow, m: NameMap, next: u32) -> Measured
-    requires { (ts : List TermRow) × SomeSingle ts row (λ c. Fits (sizes (passify_single c m next))) }
-    ensures { (ts : List TermRow) → AtSingle ts row (λ c. result ≡ sizes (passify_single c m next)) }
+pub fn measure_single(row: CommandRow, m: &NameMap, next: u32) -> Measured
+    requires { (ts : List TermRow) × SomeSingle ts row (λ c. Fits (sizes (passify_single c m.now next))) }
+    ensures { (ts : List TermRow) → AtSingle ts row (λ c. result ≡ sizes (passify_single c m.now next)) }
 {
     match Tag::try_from(row.tag) {
-        Ok(Tag::Assert) => measure_normal(m, next, row.count, row.count + 1),
-        Ok(Tag::Assume) => measure_normal(m, next, row.count, row.count),
+        Ok(Tag::Assert) => measure_normal(*m, next, row.count, row.count + 1),
+        Ok(Tag::Assume) => measure_normal(*m, next, row.count, row.count),
         Ok(Tag::Assign) => {
             let assigned = m.assigned(row.target, Name(next as u16));
             measure_normal(assigned, next + 1, row.count, row.count + 2)
         }
-        Ok(Tag::Skip) => measure_normal(m, next, 0, 0),
+        Ok(Tag::Skip) => measure_normal(*m, next, 0, 0),
         _ => Measured {
             exits: Exits {
                 normal: None,
-                raised: Some(m),
+                raised: Some(*m),
             },
             ..measure_stop(next)
         },
     }
 }
 
-// What the right part starts from.
-pub fn entry(joint: Joint, m: NameMap, left: &Exits) -> Option<NameMap>
-    ensures { result ≡ entry_map joint m left.now.normal left.now.raised }
+// What the right part starts from, where the whole starts from `names`.
+pub fn entry<'a>(joint: Joint, names: &'a Option<NameMap>, left: &'a Exits) -> &'a Option<NameMap>
+    ensures { (m : List Name) → names.now ≡ Some m → result.now ≡ entry_map joint m left.now.normal left.now.raised }
 {
     match joint {
-        Joint::Sequence => left.normal,
-        Joint::Choice => Some(m),
-        Joint::Catch => left.raised,
+        Joint::Sequence => &left.normal,
+        Joint::Choice => names,
+        Joint::Catch => &left.raised,
     }
 }
 
@@ -144,9 +145,9 @@ pub fn measure_joined(joint: Joint, left: &Measured, right: &Measured) -> Measur
 }
 
 // Of the command that ends at row `at`.
-pub fn measure_row(commands: &[CommandRow], at: u32, names: Option<NameMap>, next: u32) -> Measured
-    requires { (ts : List TermRow) × Measurable commands.now ts at names next }
-    ensures { (ts : List TermRow) → Measures commands.now ts at names next result }
+pub fn measure_row(commands: &[CommandRow], at: u32, names: &Option<NameMap>, next: u32) -> Measured
+    requires { (ts : List TermRow) × Measurable commands.now ts at names.now next }
+    ensures { (ts : List TermRow) → Measures commands.now ts at names.now next result }
 {
     let Some(m) = names else {
         return measure_stop(next);
@@ -155,7 +156,8 @@ pub fn measure_row(commands: &[CommandRow], at: u32, names: Option<NameMap>, nex
     let Some(joint) = row.joint() else {
         return measure_single(row, m, next);
     };
-    let left = measure_row(commands, row.left, Some(m), next);
-    let right = measure_row(commands, at - 1, entry(joint, m, &left.exits), left.next);
-    measure_joined(joint, &left, &right)
+    let left = &measure_row(commands, row.left, names, next);
+    let start = entry(joint, names, &left.exits);
+    let right = &measure_row(commands, at - 1, start, left.next);
+    measure_joined(joint, left, right)
 }

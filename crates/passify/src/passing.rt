@@ -109,14 +109,14 @@ pub fn passify_row(
     commands: &[CommandRow],
     terms: &[TermRow],
     i: u32,
-    names: Option<NameMap>,
+    names: &Option<NameMap>,
     next: u32,
     rows: &mut [PassiveRow],
     out: &mut [PassiveTermRow],
     at: Place,
 ) -> Passed
-    requires { Writable commands.now terms.now i names next at rows.old out.old }
-    ensures { Written commands.now terms.now i names next at rows.old rows.new out.old out.new result }
+    requires { Writable commands.now terms.now i names.now next at rows.old out.old }
+    ensures { Written commands.now terms.now i names.now next at rows.old rows.new out.old out.new result }
 {
     let Some(m) = names else {
         return Passed {
@@ -126,34 +126,30 @@ pub fn passify_row(
     };
     let row = commands[i as usize];
     let Some(joint) = row.joint() else {
-        let end = passify_single(row, terms, &m, next, rows, out, at);
+        let end = passify_single(row, terms, m, next, rows, out, at);
         let measured = measure_single(row, m, next);
         return Passed { measured, end };
     };
-    let left = passify_row(commands, terms, row.left, Some(m), next, rows, out, at);
-    let measured = left.measured;
-    let right = measure_row(
-        commands,
-        i - 1,
-        entry(joint, m, &measured.exits),
-        measured.next,
-    );
-    let exits = left_exits(joint, &measured.exits);
-    let middle = write_side(&exits, &right.exits, right.next, rows, out, left.end);
-    let again = passify_row(
+    let left = &passify_row(commands, terms, row.left, names, next, rows, out, at);
+    let measured = &left.measured;
+    let start = entry(joint, names, &measured.exits);
+    let right = &measure_row(commands, i - 1, start, measured.next);
+    let exits = &left_exits(joint, &measured.exits);
+    let middle = write_side(exits, &right.exits, right.next, rows, out, left.end);
+    let again = &passify_row(
         commands,
         terms,
         i - 1,
-        entry(joint, m, &measured.exits),
+        start,
         measured.next,
         rows,
         out,
         middle,
     );
-    let behind = write_side(&right.exits, &exits, right.next, rows, out, again.end);
+    let behind = write_side(&right.exits, exits, right.next, rows, out, again.end);
     let joined = PassiveRow::joining(joint, middle.row - 1);
     Passed {
-        measured: measure_joined(joint, &measured, &right),
+        measured: measure_joined(joint, measured, right),
         end: write_row(rows, behind, joined),
     }
 }

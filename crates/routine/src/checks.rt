@@ -97,12 +97,15 @@ fn place(
     requires { Ready parts.now i }
     ensures { result ≡ part_at parts.now i row.left (reading v ops terms.now row) }
 {
+    // Asked first, for speed: a routine joins about as many rows as it has others.
+    if row.joint().is_some() {
+        return join_at(parts, i, row.left);
+    }
     match Tag::try_from(row.tag)? {
         Tag::Assign if row.target >= v => Err(Refusal::Target),
         Tag::Assert | Tag::Assume | Tag::Assign if !row_has_term(v, ops, terms, row) => {
             Err(Refusal::Term)
         }
-        Tag::Join(_) => join_at(parts, i, row.left),
         _ => Ok(Part { first: i, depth: 1 }),
     }
 }

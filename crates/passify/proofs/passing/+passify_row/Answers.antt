@@ -22,69 +22,69 @@ measure_single-measured-requires t c =
     let n = sym c.joint.ensures ∙ c.in_default-joint.is in
     (c.args.terms.now, single_measurable _ _ _ _ _ n (writable_measurable _ _ _ c.args.next _ _ _ (Some c.in-Some.m) w))
 
-pub passify_row-left-requires : goal.passify_row-left-requires
-passify_row-left-requires t c =
+pub passify_row-requires : goal.passify_row-requires
+passify_row-requires t c =
     let w = room_same _ _ _ _ _ _ _ c.in-Some.is c.requires in
     let s = sym c.joint.ensures ∙ c.in-Some-joint.is in
     let f = writable_measurable _ _ _ c.args.next _ _ _ (Some c.in-Some.m) w in
-    (omega (arith, left_falls _ _ _ c.args.next c.in-Some.m _ s f, c.decreases), left_writable _ _ _ _ _ _ _ _ _ s w)
+    (omega (arith, left_falls _ _ _ c.args.next c.in-Some.m _ s f, c.decreases), room_same _ _ _ _ _ _ _ (sym c.in-Some.is) (left_writable _ _ _ _ _ _ _ _ _ s w))
 
-pub measure_row-right-requires : goal.measure_row-right-requires
-measure_row-right-requires t c =
+pub measure_row-requires : goal.measure_row-requires
+measure_row-requires t c =
     let w = room_same _ _ _ _ _ _ _ c.in-Some.is c.requires in
     let s = sym c.joint.ensures ∙ c.in-Some-joint.is in
-    (c.args.terms.now, right_measured _ _ _ _ _ _ _ _ _ s _ _ _ c.passify_row-left.ensures _ c.entry.ensures w)
+    (c.args.terms.now, right_measured _ _ _ _ _ _ _ _ _ s _ _ _ (from_same _ _ _ _ _ _ _ c.in-Some.is c.passify_row.ensures) _ (c.entry-start.ensures _ c.in-Some.is) w)
 
 pub write_side-middle-requires : goal.write_side-middle-requires
 write_side-middle-requires t c =
     let w = room_same _ _ _ _ _ _ _ c.in-Some.is c.requires in
     let s = sym c.joint.ensures ∙ c.in-Some-joint.is in
-    let h = left_side_room _ _ _ _ _ _ _ _ _ s _ _ _ c.passify_row-left.ensures _ c.entry.ensures _ (c.measure_row-right.ensures c.args.terms.now) _ c.left_exits-exits.ensures w in
+    let h = left_side_room _ _ _ _ _ _ _ _ _ s _ _ _ (from_same _ _ _ _ _ _ _ c.in-Some.is c.passify_row.ensures) _ (c.entry-start.ensures _ c.in-Some.is) _ (c.measure_row.ensures c.args.terms.now) _ c.left_exits.ensures w in
     record { names = h.names; behind = h.behind; room = h.room }
 
-pub passify_row-again-requires : goal.passify_row-again-requires
-passify_row-again-requires t c =
+pub passify_row-requires-2 : goal.passify_row-requires-2
+passify_row-requires-2 t c =
     let w = room_same _ _ _ _ _ _ _ c.in-Some.is c.requires in
     let s = sym c.joint.ensures ∙ c.in-Some-joint.is in
     let f = writable_measurable _ _ _ c.args.next _ _ _ (Some c.in-Some.m) w in (
       omega (arith, left_falls _ _ _ c.args.next c.in-Some.m _ s f, c.decreases),
-      room_same _ _ _ _ _ _ _ (c.entry.ensures ∙ sym c.entry-2.ensures) (right_writable _ _ _ _ _ _ _ _ _ s _ _ _ c.passify_row-left.ensures _ c.entry.ensures _ (c.measure_row-right.ensures c.args.terms.now) _ c.left_exits-exits.ensures _ _ _ c.write_side-middle.ensures w),
+      right_writable _ _ _ _ _ _ _ _ _ s _ _ _ (from_same _ _ _ _ _ _ _ c.in-Some.is c.passify_row.ensures) _ (c.entry-start.ensures _ c.in-Some.is) _ (c.measure_row.ensures c.args.terms.now) _ c.left_exits.ensures _ _ _ c.write_side-middle.ensures w,
     )
 
 pub write_side-behind-requires : goal.write_side-behind-requires
 write_side-behind-requires t c =
     let w = room_same _ _ _ _ _ _ _ c.in-Some.is c.requires in
     let s = sym c.joint.ensures ∙ c.in-Some-joint.is in
-    let a = from_same _ _ _ _ _ _ _ (c.entry-2.ensures ∙ sym c.entry.ensures) c.passify_row-again.ensures in
-    let h = right_side_room _ _ _ _ _ _ _ _ _ s _ _ _ c.passify_row-left.ensures _ c.entry.ensures _ (c.measure_row-right.ensures c.args.terms.now) _ c.left_exits-exits.ensures _ _ _ c.write_side-middle.ensures _ _ _ a w in
+    let a = c.passify_row-2.ensures in
+    let h = right_side_room _ _ _ _ _ _ _ _ _ s _ _ _ (from_same _ _ _ _ _ _ _ c.in-Some.is c.passify_row.ensures) _ (c.entry-start.ensures _ c.in-Some.is) _ (c.measure_row.ensures c.args.terms.now) _ c.left_exits.ensures _ _ _ c.write_side-middle.ensures _ _ _ a w in
     record { names = h.names; behind = h.behind; room = h.room }
 
 pub overflow_sub-middle : goal.overflow_sub-middle
 overflow_sub-middle t c =
     let w = room_same _ _ _ _ _ _ _ c.in-Some.is c.requires in
     let s = sym c.joint.ensures ∙ c.in-Some-joint.is in
-    omega (arith, middle_some _ _ _ _ _ _ _ _ _ s _ _ _ c.passify_row-left.ensures _ c.entry.ensures _ (c.measure_row-right.ensures c.args.terms.now) _ c.left_exits-exits.ensures _ _ _ c.write_side-middle.ensures w)
+    omega (arith, middle_some _ _ _ _ _ _ _ _ _ s _ _ _ (from_same _ _ _ _ _ _ _ c.in-Some.is c.passify_row.ensures) _ (c.entry-start.ensures _ c.in-Some.is) _ (c.measure_row.ensures c.args.terms.now) _ c.left_exits.ensures _ _ _ c.write_side-middle.ensures w)
 
 pub measure_joined-requires : goal.measure_joined-requires
 measure_joined-requires t c =
     let w = room_same _ _ _ _ _ _ _ c.in-Some.is c.requires in
     let s = sym c.joint.ensures ∙ c.in-Some-joint.is in
-    joined_fits _ _ _ _ _ _ s _ (left_measures _ _ _ _ _ _ _ _ _ s _ _ _ c.passify_row-left.ensures _ c.entry.ensures) _ c.entry.ensures _
-    (c.measure_row-right.ensures c.args.terms.now) (writable_measurable _ _ _ c.args.next _ _ _ (Some c.in-Some.m) w)
+    joined_fits _ _ _ _ _ _ s _ (left_measures _ _ _ _ _ _ _ _ _ s _ _ _ (from_same _ _ _ _ _ _ _ c.in-Some.is c.passify_row.ensures) _ (c.entry-start.ensures _ c.in-Some.is)) _ (c.entry-start.ensures _ c.in-Some.is) _
+    (c.measure_row.ensures c.args.terms.now) (writable_measurable _ _ _ c.args.next _ _ _ (Some c.in-Some.m) w)
 
 pub write_row-requires-2 : goal.write_row-requires-2
 write_row-requires-2 t c =
     let w = room_same _ _ _ _ _ _ _ c.in-Some.is c.requires in
     let s = sym c.joint.ensures ∙ c.in-Some-joint.is in
-    let a = from_same _ _ _ _ _ _ _ (c.entry-2.ensures ∙ sym c.entry.ensures) c.passify_row-again.ensures in
-    let r = row_room _ _ _ _ _ _ _ _ _ s _ _ _ c.passify_row-left.ensures _ c.entry.ensures _ (c.measure_row-right.ensures c.args.terms.now) _ c.left_exits-exits.ensures _ _ _ c.write_side-middle.ensures _ _ _ a _ _ _ c.write_side-behind.ensures w in
+    let a = c.passify_row-2.ensures in
+    let r = row_room _ _ _ _ _ _ _ _ _ s _ _ _ (from_same _ _ _ _ _ _ _ c.in-Some.is c.passify_row.ensures) _ (c.entry-start.ensures _ c.in-Some.is) _ (c.measure_row.ensures c.args.terms.now) _ c.left_exits.ensures _ _ _ c.write_side-middle.ensures _ _ _ a _ _ _ c.write_side-behind.ensures w in
     record { within = r.0; few = r.1 }
 
 pub returns : goal.returns
 returns t c =
     let w = room_same _ _ _ _ _ _ _ c.in-Some.is c.requires in
     let s = sym c.joint.ensures ∙ c.in-Some-joint.is in
-    let a = from_same _ _ _ _ _ _ _ (c.entry-2.ensures ∙ sym c.entry.ensures) c.passify_row-again.ensures in
+    let a = c.passify_row-2.ensures in
     from_same _ _ _ _ _ _ _ (sym c.in-Some.is)
-    (joined_written _ _ _ _ _ _ _ _ _ s _ _ _ c.passify_row-left.ensures _ c.entry.ensures _ (c.measure_row-right.ensures c.args.terms.now) _ c.left_exits-exits.ensures _ _ _ c.write_side-middle.ensures _ _ _ a _ _ _ c.write_side-behind.ensures _ _ _ _ w c.measure_joined.ensures c.joining-joined.ensures
+    (joined_written _ _ _ _ _ _ _ _ _ s _ _ _ (from_same _ _ _ _ _ _ _ c.in-Some.is c.passify_row.ensures) _ (c.entry-start.ensures _ c.in-Some.is) _ (c.measure_row.ensures c.args.terms.now) _ c.left_exits.ensures _ _ _ c.write_side-middle.ensures _ _ _ a _ _ _ c.write_side-behind.ensures _ _ _ _ w c.measure_joined.ensures c.joining-joined.ensures
     (c.write_row-2.ensures c.write_side-behind.new.terms))
