@@ -1,5 +1,5 @@
 -- What a register holds, and when a call on its entries is refused.
-use Rattle.std.specs.Prelude.{ℕ, Bool, true, false, not, ◌&&◌, List, length, Some, None, Ok, Err, Option, Result, nat_lt, slice_index_or}
+use Rattle.std.specs.Prelude.{ℕ, Bool, true, false, not, ◌&&◌, List, length, take, Some, None, Ok, Err, Option, Result, nat_lt, slice_index_or}
 use Rattle.kinds.specs.Kind.{KindOf}
 use Rattle.kinds.specs.declared.numbered.Node.{Node}
 use Rattle.kinds.specs.declared.refusals.Refusal.{Refusal}
@@ -25,8 +25,16 @@ pub record Held (S : Type 0) : Type 0 where
 abbrev pub entry : Node → ℕ → ℕ → Entry
 entry n names rise = record { node = n; names = names; rise = rise; struck = false }
 
+-- what stands where no entry was made
+abbrev pub no_entry : Entry
+no_entry = entry node_no 0 0
+
+-- the entries in use: the first so many that stand in an array
+abbrev pub listed : List Entry → ℕ → List Entry
+listed slots used = take used slots
+
 abbrev pub entry_at : List Entry → ℕ → Entry
-entry_at es j = slice_index_or es j (entry node_no 0 0)
+entry_at es j = slice_index_or es j no_entry
 
 abbrev pub struck_out : Entry → Entry
 struck_out e = record e { struck = true }

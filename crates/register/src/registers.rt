@@ -12,7 +12,7 @@ pub mod replays;
 const MOST_ENTRIES: usize = 64;
 
 // The entries: the first `used` of the array.
-#[derive(Drop)]
+#[derive(Clone, Copy)]
 pub struct Entries {
     slots: [Entry; MOST_ENTRIES],
     used: u32,
@@ -20,15 +20,21 @@ pub struct Entries {
 
 // Clauses see the entries in use.
 impl Model for Entries {
-    ghost use Rattle.std.specs.Prelude.{◌≤◌, List, take};
+    ghost use Rattle.std.specs.Prelude.{List, length};
+    ghost use Rattle.passify.specs.Padding.{padded, Fills};
+    ghost use Rattle.passify.specs.PaddingLaws.{unpadded};
     ghost use Rattle.register.specs.declared.entries.Entry.{Entry};
-    ghost use Rattle.register.specs.Held.{most_entries};
+    ghost use Rattle.register.specs.Held.{most_entries, no_entry, listed};
 
     ghost Value = { List Entry };
 
-    ghost view = { λ e. take e.used e.slots };
+    ghost view = { λ e. listed e.slots e.used };
 
-    ghost invariant = { λ e. e.used ≤ most_entries };
+    ghost invariant = { λ e. Fills no_entry most_entries e.slots e.used };
+
+    ghost inverse = { λ es. record { slots = padded no_entry most_entries es; used = length es } };
+
+    ghost inverse_ok = { λ e h i. let u = unpadded no_entry most_entries e.slots e.used h in record { slots = u.same_items i; used = u.same_len i } };
 }
 
 impl Entries {

@@ -1,17 +1,17 @@
-use Rattle.std.proofs.Common.{◌≡◌, ℕ, ◌<◌, List, length, take, set, sym, ap, ◌∙◌, arith}
-use lib.Seq.{take-set-lt}
-use Rattle.std.proofs.lemmas.List.{get_or-take, length-take}
-use Rattle.formula.specs.Store.{node_no}
-use Rattle.register.specs.declared.entries.Entry.{Entry}
-use Rattle.register.specs.Held.{entry, entry_at, struck_out}
+use Rattle.std.proofs.Common.{take, set, sym, ap, ◌∙◌}
+use Rattle.std.proofs.lemmas.List.{get_or-take}
+use Rattle.passify.proofs.Padded.{items_set, fills_set, within}
+use Rattle.register.specs.Held.{no_entry, entry_at, struck_out}
 use Rattle.register.proofs.registers.Entries.mark.Goals as goal
 
--- an entry that is in use is marked in the list of those in use
-take-struck : (n : ℕ) (xs : List Entry) (i : ℕ) → i < n → take n (set xs i (struck_out (entry_at xs i))) ≡ set (take n xs) i (struck_out (entry_at (take n xs) i))
-take-struck n xs i l = take-set-lt n xs i (struck_out (entry_at xs i)) l ∙ ap (λ e. set (take n xs) i (struck_out e)) (sym (get_or-take n xs i (entry node_no 0 0) l))
+pub invariant_of-self : goal.invariant_of-self
+invariant_of-self c =
+    fills_set _ _ _ _ c.self.invariant c.args.j _ (within _ _ _ _ c.self.invariant _ c.self.view_is c.args.j c.requires)
 
 pub returns : goal.returns
 returns c =
     let e = c.self.inside in
-    let there : c.args.j < e.used = omega (arith, ap length c.self.view_is, length-take e.used e.slots) in
-    rw (← c.self.view_is) (take-struck e.used e.slots c.args.j there)
+    let there = within _ _ _ _ c.self.invariant _ c.self.view_is c.args.j c.requires in
+    items_set _ _ _ _ c.self.invariant c.args.j (struck_out (entry_at e.slots c.args.j)) there
+    ∙ (ap (λ x. set (take e.used e.slots) c.args.j (struck_out x)) (sym (get_or-take e.used e.slots c.args.j no_entry there))
+    ∙ ap (λ es. set es c.args.j (struck_out (entry_at es c.args.j))) c.self.view_is)
