@@ -1,4 +1,7 @@
 // Three sorts of number, which never stand for one another.
+ghost use Rattle.std.specs.Prelude.{Some};
+ghost use Rattle.kinds.specs.Printed.{variable_text, name_text, node_text};
+
 use std::fmt;
 
 // A variable of a routine, numbered from 0.
@@ -14,18 +17,24 @@ pub struct Name(pub u16);
 pub struct Node(pub u32);
 
 impl fmt::Display for Variable {
+    ghost output = { λ x. Some (variable_text x) };
+
     fn fmt<W: fmt::Write>(&self, f: &mut fmt::Formatter<W>) -> fmt::Result {
         write!(f, "v{}", self.0)
     }
 }
 
 impl fmt::Display for Name {
+    ghost output = { λ x. Some (name_text x) };
+
     fn fmt<W: fmt::Write>(&self, f: &mut fmt::Formatter<W>) -> fmt::Result {
         write!(f, "n{}", self.0)
     }
 }
 
 impl fmt::Display for Node {
+    ghost output = { λ x. Some (node_text x) };
+
     fn fmt<W: fmt::Write>(&self, f: &mut fmt::Formatter<W>) -> fmt::Result {
         write!(f, "node {}", self.0)
     }

@@ -3,3 +3,4 @@ pub mod Answers
 pub mod Histories
 pub mod Promise
 pub mod Views
+pub mod Printed

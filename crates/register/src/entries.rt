@@ -1,4 +1,7 @@
 // What a register holds, what it is asked and what it answers.
+ghost use Rattle.std.specs.Prelude.{Some};
+ghost use Rattle.register.specs.Printed.{request_text, filing_text, joining_text, reading_text, answer_text};
+
 use kinds::numbered::Node;
 use routine::rows::{CommandRow, TermRow};
 use std::fmt;
@@ -67,6 +70,8 @@ pub enum Answer {
 }
 
 impl fmt::Display for Request<'_> {
+    ghost output = { λ x. Some (request_text x) };
+
     fn fmt<W: fmt::Write>(&self, f: &mut fmt::Formatter<W>) -> fmt::Result {
         match self {
             Request::File(commands, _) => {
@@ -80,6 +85,8 @@ impl fmt::Display for Request<'_> {
 }
 
 impl fmt::Display for Filing {
+    ghost output = { λ x. Some (filing_text x) };
+
     fn fmt<W: fmt::Write>(&self, f: &mut fmt::Formatter<W>) -> fmt::Result {
         let Filing {
             entry,
@@ -89,14 +96,14 @@ impl fmt::Display for Filing {
             terms,
             rise,
         } = self;
-        write!(
-            f,
-            "entry {entry}, {node}, {names} names, {rows} rows, {terms} term rows, nodes made: {rise}"
-        )
+        write!(f, "entry {entry}, {node}, {names} names, ")?;
+        write!(f, "{rows} rows, {terms} term rows, nodes made: {rise}")
     }
 }
 
 impl fmt::Display for Joining {
+    ghost output = { λ x. Some (joining_text x) };
+
     fn fmt<W: fmt::Write>(&self, f: &mut fmt::Formatter<W>) -> fmt::Result {
         let Joining { entry, node } = self;
         write!(f, "entry {entry}, {node}")
@@ -104,6 +111,8 @@ impl fmt::Display for Joining {
 }
 
 impl fmt::Display for Reading {
+    ghost output = { λ x. Some (reading_text x) };
+
     fn fmt<W: fmt::Write>(&self, f: &mut fmt::Formatter<W>) -> fmt::Result {
         let Reading { node, names, rise } = self;
         write!(f, "{node}, {names} names, nodes made: {rise}")
@@ -111,6 +120,8 @@ impl fmt::Display for Reading {
 }
 
 impl fmt::Display for Answer {
+    ghost output = { λ x. Some (answer_text x) };
+
     fn fmt<W: fmt::Write>(&self, f: &mut fmt::Formatter<W>) -> fmt::Result {
         match self {
             Answer::Filed(filing) => write!(f, "{filing}"),
