@@ -215,7 +215,7 @@ module _ {S : Type 0} (Alike : S → S → Type 0) (steps : S → Making → Nod
       rows_fixed terms rest (done ++ (filled r e ∷ [])) f.1 (rows_calls steps y)
       (rows_calls steps (subst (λ z. RowsMade steps terms u' (done ++ (filled r z ∷ [])) rest t' all') (sym f.0) y'))
 
-  condition_fixed : ConditionFixed Alike steps
+  pub condition_fixed : ConditionFixed Alike steps
   condition_fixed p s s' rows rows' n n' t t' a x y =
       let f = rows_fixed (term_rows p) (layout p 0 0) [] a (rows_calls steps x.rows_made) (rows_calls steps y.rows_made) in
       let g = fixed f.1 x.last_made (subst (λ z. steps y.between (making.Not (last_ends z).W) n' t') (sym f.0) y.last_made) in
